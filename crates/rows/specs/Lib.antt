@@ -1,0 +1,4 @@
+pub mod Rows
+pub mod Kinds
+pub mod Orders
+pub mod Theorems
