@@ -1,0 +1,14 @@
+pub mod Legs
+pub mod Lists
+pub mod Walks
+pub mod Rounds
+pub mod Rates
+pub mod Standing
+pub mod Marks
+pub mod Layers
+pub mod WalksBack
+pub mod Measure
+pub mod Bare
+pub mod Sizes
+pub mod Theorems
+pub mod SearchTheorems
