@@ -1,0 +1,43 @@
+// The summed cost and hours of legs, read through a chart.
+ghost use mathlib.Core.Path.{_≡_};
+ghost use Prim.Native.Nat.{_≤_};
+ghost use lib.ListN.{length};
+ghost use Rattle.limits.specs.Numbers.{most-legs};
+ghost use Rattle.charts.specs.Reading.{figures-of};
+ghost use Rattle.rounds.specs.Legs.{figures-at};
+ghost use Rattle.pricing.specs.Totals.{Totals};
+use charts::Chart;
+use charts::Entry;
+use charts::Leg;
+use costs::CostKind;
+use costs::Rate;
+
+// The leg of a number, or one of no hours and no cost where there is none.
+pub fn leg_at<C: Chart>(chart: &C, n: usize) -> Leg<C::Cost>
+    ensures { λ r. ⌜ figures-of (Cost·CostKind .row) r ≡ figures-at (C·Chart .meaning (now (chart .entry))) n ⌝ }
+{
+    match chart.entry(n) {
+        Entry::Leg(leg) => leg,
+        _ => Leg {
+            from: 0,
+            to: 0,
+            hours: 0,
+            cost: C::Cost::zero(),
+        },
+    }
+}
+
+// What the legs of a list cost and take together; exact for as many as a chart has entries.
+pub fn total<C: Chart>(chart: &C, numbers: &[u16]) -> Rate<C::Cost>
+    ensures { λ r. ⌜ (length (now (numbers .entry)) ≤ most-legs → Totals (Cost·CostKind .row) (C·Chart .meaning (now (chart .entry))) (now (numbers .entry)) (r .cost) (r .hours)) ⌝ }
+{
+    let _ports = chart.ports();
+    let mut cost = C::Cost::zero();
+    let mut hours: u64 = 0;
+    for n in numbers {
+        let leg = leg_at(chart, *n as usize);
+        cost = cost.plus(leg.cost);
+        hours = hours.saturating_add(leg.hours as u64);
+    }
+    Rate { cost, hours }
+}
