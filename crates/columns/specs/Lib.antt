@@ -1,0 +1,4 @@
+pub mod Numerals
+pub mod Columns
+pub mod Put
+pub mod Theorems
