@@ -1,7 +1,7 @@
 // A grid chart: hours between each two ports, at one money cost for all legs.
 ghost use mathlib.Core.Path.{_≡_};
 ghost use mathlib.Core.List.{[]};
-ghost use Prim.Native.Nat.{_+_, _<_};
+ghost use Prim.Native.Nat.{_+_, _/_, _%_, _<_};
 ghost use lib.ListN.{getD, take};
 ghost use denote.Ref.{now as behind};
 ghost use Rattle.limits.specs.Numbers.{most-legs};
@@ -40,6 +40,14 @@ fn hours_under(hours: &[u32], n: usize) -> u32
     } else {
         0
     }
+}
+
+// The ports that a number joins: number u * ports + v leads from u to v.
+fn ends(ports: usize, n: usize) -> (u16, u16)
+    requires { ⌜ 0 < ports ⌝ ∗ ⌜ n < most-legs ⌝ }
+    ensures { λ r. ⌜ (r .0 ≡ n / ports) × (r .1 ≡ n % ports) ⌝ }
+{
+    ((n / ports) as u16, (n % ports) as u16)
 }
 
 fn refuse_grid(ports: usize, hours: &[u32], cost: Money) -> Option<Refusal>
@@ -105,11 +113,12 @@ pub impl<'a> Chart for GridChart<'a> as GridIsChart {
             return Entry::Blank;
         }
         let ports = self.last as usize + 1;
+        let (from, to) = ends(ports, n);
         limited_entry(
             ports,
             Leg {
-                from: (n / ports) as u16,
-                to: (n % ports) as u16,
+                from,
+                to,
                 hours,
                 cost: self.cost,
             },

@@ -2,7 +2,9 @@
 ghost use mathlib.Core.Path.{_≡_};
 ghost use mathlib.Core.Bool.{true};
 ghost use lib.Dec.{leb};
-ghost use Rattle.limits.specs.Numbers.{most-ports, most-cost};
+ghost use Prim.Native.Nat.{_*_, _≤_};
+ghost use Rattle.limits.specs.Numbers.{most-ports, most-cost, exact-size};
+ghost use Rattle.rows.specs.Rows.{times};
 ghost use Rattle.charts.specs.Meaning.{Allowed};
 ghost use Rattle.charts.specs.Reading.{figures-of};
 ghost use Rattle.limits.specs.Refusals.{answer};
@@ -39,6 +41,16 @@ impl<K: CostKind> Hire<K> {
     }
 }
 
+// The hire of so many hours.
+fn hire_of<K: CostKind>(cost: K, hours: u32) -> K
+    ensures { λ r. ⌜ (
+        let k = K·CostKind .kind in
+        let a = K·CostKind .row cost in
+        k .size a ≤ exact-size → hours * k .size a ≤ exact-size → K·CostKind .row r ≡ times hours a) ⌝ }
+{
+    cost.multiple(hours as u64)
+}
+
 pub impl<K: CostKind> Layer<K> for Hire<K> as HireLayer {
     ghost accepted = { λ s. leb (K·CostKind .kind .size (K·CostKind .row (s .cost))) most-cost };
 
@@ -53,7 +65,7 @@ pub impl<K: CostKind> Layer<K> for Hire<K> as HireLayer {
         requires allowed { ⌜ Allowed (K·CostKind .kind) most-ports (figures-of (K·CostKind .row) leg) ⌝ }
         ensures { λ r. ⌜ passed-on (K·CostKind .row) r ≡ with-hire (K·CostKind .row (now (self .entry) .cost)) (figures-of (K·CostKind .row) leg) ⌝ }
     {
-        let hire = self.cost.multiple(leg.hours as u64);
+        let hire = hire_of(self.cost, leg.hours);
         Some(Leg {
             from: leg.from,
             to: leg.to,

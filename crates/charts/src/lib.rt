@@ -7,7 +7,7 @@ pub mod layer;
 pub mod leg;
 pub mod limited;
 pub mod stays;
-pub mod table;
+mod table;
 pub mod written;
 
 pub use chart::Chart;

@@ -1,10 +1,19 @@
 // The worked example from start to finish: three ports, four legs, and which round costs least per hour.
+mod edges;
+mod edits;
+mod legs;
+mod piles;
 mod rates;
 
 use std::io;
+use triangle_facts::triangle_figures_stand;
 
 fn main(rt: LibcRuntime) -> io::Result<()> {
+    // What is printed below of best rounds, marks and layers is proved of the definitions there.
+    triangle_figures_stand();
     println!(rt, "The triangle: three ports and four legs.")?;
-    rates::in_dollars(&rt)?;
-    rates::in_dollars_then_tonnes(&rt)
+    edits::run(&rt)?;
+    rates::run(&rt)?;
+    piles::run(&rt)?;
+    edges::run(&rt)
 }

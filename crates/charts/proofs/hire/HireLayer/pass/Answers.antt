@@ -11,4 +11,4 @@ returns g c =
     let k = g .K·CostKind in
     let l = c .args .leg in
     let at : Row → Figures = λ r. record { from = l .from; to = l .to; hours = l .hours; cost = r } in
-    ap (λ r. Some (at r)) (hired-cost (k .kind) (k .lawful) (k .row (l .cost)) (k .row (c .args .self .now .cost)) (k .row (c .multiple-hire .result)) (k .row (c .plus .result)) (l .hours) (c .pre .allowed .few-hours) (c .pre .allowed .small-cost) (leb-true _ _ (c .pre .accepted)) (c .multiple-hire .ensures) (c .plus .ensures))
+    ap (λ r. Some (at r)) (hired-cost (k .kind) (k .lawful) (k .row (l .cost)) (k .row (c .args .self .now .cost)) (k .row (c .hire-of-hire .result)) (k .row (c .plus .result)) (l .hours) (c .pre .allowed .few-hours) (c .pre .allowed .small-cost) (leb-true _ _ (c .pre .accepted)) (c .hire-of-hire .ensures) (c .plus .ensures))

@@ -1,0 +1,4 @@
+pub mod Rounds
+pub mod Settled
+pub mod NoRound
+pub mod Figures
