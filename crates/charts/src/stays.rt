@@ -2,6 +2,8 @@
 pub mod table;
 
 ghost use mathlib.Core.Path.{_≡_};
+ghost use Prim.Native.Nat.{_<_};
+ghost use lib.ListN.{getD};
 ghost use mathlib.Core.Bool.{true};
 ghost use Rattle.limits.specs.Numbers.{most-ports};
 ghost use Rattle.charts.specs.Meaning.{Allowed};
@@ -50,6 +52,14 @@ impl Stays {
     }
 }
 
+// The stay in the port that a leg reaches.
+fn stay_after<K: CostKind>(stays: &Stays, leg: Leg<K>) -> u32
+    requires { ⌜ leg .to < most-ports ⌝ }
+    ensures { λ r. ⌜ r ≡ getD (now (stays .entry) .hours) (leg .to) 0 ⌝ }
+{
+    stays.hours[leg.to as usize]
+}
+
 pub impl<K: CostKind> Layer<K> for Stays as StaysLayer {
     ghost accepted = { λ s. all-short (s .hours) };
 
@@ -64,7 +74,7 @@ pub impl<K: CostKind> Layer<K> for Stays as StaysLayer {
         requires allowed { ⌜ Allowed (K·CostKind .kind) most-ports (figures-of (K·CostKind .row) leg) ⌝ }
         ensures { λ r. ⌜ passed-on (K·CostKind .row) r ≡ with-stay (now (self .entry) .hours) (figures-of (K·CostKind .row) leg) ⌝ }
     {
-        let stay = self.hours[leg.to as usize];
+        let stay = stay_after(self, leg);
         Some(Leg {
             from: leg.from,
             to: leg.to,
