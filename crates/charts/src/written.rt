@@ -7,6 +7,8 @@ ghost use Rattle.std.specs.declared.option.Option.the-variants.{Some, None};
 ghost use denote.Ref.{now as behind, name};
 ghost use Rattle.limits.specs.Refusals.{if-refused, answer};
 ghost use Rattle.charts.specs.Edits.{Edited};
+ghost use Rattle.charts.specs.Meaning.{shown-at, leg as leg-shown};
+ghost use Rattle.charts.specs.Reading.{figures-of};
 ghost use Rattle.charts.specs.Written.{table-refusal, places-read, written, enter-refusal, withdraw-refusal, reprice-refusal, repriced};
 use super::chart::Chart;
 use super::leg::Entry;
@@ -82,6 +84,12 @@ impl<'a, K: CostKind> WrittenChart<'a, K> {
             let p = now (self .entry) .last + 1 in
             let before = behind (now (self .entry) .table) in
             Edited k row p (enter-refusal k row p (places-read before) n leg) n (Some leg) before (behind (now (self .exit) .table)) r) ⌝ }
+        ensures shown { λ _. ⌜ (
+            let k = K·CostKind .kind in
+            let row = K·CostKind .row in
+            let p = now (self .entry) .last + 1 in
+            enter-refusal k row p (places-read (behind (now (self .entry) .table))) n leg ≡ None →
+            shown-at (written k row p (behind (now (self .exit) .table))) n ≡ leg-shown (figures-of row leg)) ⌝ }
         ensures ports { λ _. ⌜ now (self .exit) .last ≡ now (self .entry) .last ⌝ }
         ensures lender { λ _. ⌜ name (now (self .exit) .table) ≡ name (now (self .entry) .table) ⌝ }
     {
