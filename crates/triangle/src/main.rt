@@ -1,6 +1,7 @@
 // The worked example from start to finish: three ports, four legs, and which round costs least per hour.
 mod edges;
 mod edits;
+mod least;
 mod legs;
 mod piles;
 mod rates;
@@ -15,5 +16,6 @@ fn main(rt: LibcRuntime) -> io::Result<()> {
     edits::run(&rt)?;
     rates::run(&rt)?;
     piles::run(&rt)?;
+    least::run(&rt)?;
     edges::run(&rt)
 }
