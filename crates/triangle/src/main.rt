@@ -5,6 +5,7 @@ mod least;
 mod legs;
 mod piles;
 mod rates;
+mod texts;
 
 use std::io;
 use triangle_facts::triangle_figures_stand;
@@ -17,5 +18,6 @@ fn main(rt: LibcRuntime) -> io::Result<()> {
     rates::run(&rt)?;
     piles::run(&rt)?;
     least::run(&rt)?;
+    texts::run(&rt)?;
     edges::run(&rt)
 }
