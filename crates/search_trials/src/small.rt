@@ -1,4 +1,4 @@
-// Every chart of three ports in a family of small legs, against its simple cycles.
+// Every chart of a family of at most three ports and four small legs, against its simple cycles.
 use crate::cycles::Cycles;
 use crate::cycles::all_cycles;
 use charts::Leg;
@@ -12,7 +12,6 @@ use search::Held;
 use search::find_least;
 use std::io;
 
-// The places of a family: no leg, or one between any two of three ports with one of these hours and costs.
 const FEW_HOURS: [u32; 2] = [0, 1];
 
 const FEW_COSTS: [i64; 2] = [-1, 2];
@@ -67,18 +66,26 @@ fn are_level(a: Rate<Money>, b: Rate<Money>) -> bool {
     !a.is_cheaper_than(b) && !b.is_cheaper_than(a)
 }
 
+// A family of charts: so many ports, and legs between any two of them with one of these hours and costs.
+#[derive(Clone, Copy)]
+struct Family<'a> {
+    ports: usize,
+    hours: &'a [u32],
+    costs: &'a [i64],
+}
+
 // The place of a code: 0 for none, and else a leg.
-fn place(code: u32, hours: &[u32], costs: &[i64]) -> Option<Leg<Money>> {
+fn place(family: Family, code: u32) -> Option<Leg<Money>> {
     if code == 0 {
         return None;
     }
     let n = code as usize - 1;
-    let from = (n % 3) as u16;
-    let to = (n / 3 % 3) as u16;
-    let hours_place = n / 9;
-    let cost_place = hours_place.checked_div(hours.len())?;
-    let dollars = *costs.get(cost_place)?;
-    let hours = *hours.get(hours_place.checked_rem(hours.len())?)?;
+    let from = u16::try_from(n.checked_rem(family.ports)?).ok()?;
+    let n = n.checked_div(family.ports)?;
+    let to = u16::try_from(n.checked_rem(family.ports)?).ok()?;
+    let n = n.checked_div(family.ports)?;
+    let hours = *family.hours.get(n.checked_rem(family.hours.len())?)?;
+    let dollars = *family.costs.get(n.checked_div(family.hours.len())?)?;
     Some(Leg {
         from,
         to,
@@ -107,13 +114,13 @@ fn legs_of(table: &[Option<Leg<Money>>]) -> ([Leg<Money>; 4], usize) {
     (legs, count)
 }
 
-fn try_chart(tally: Tally, table: &mut [Option<Leg<Money>>]) -> Tally {
+fn try_chart(tally: Tally, ports: usize, table: &mut [Option<Leg<Money>>]) -> Tally {
     let (legs, count) = legs_of(table);
     let cycles = all_cycles(&legs[0..count.min(4)]);
     let mut costs = [Money { dollars: 0 }; 9];
     let mut numbers = [0; 12];
     let mut round = [0; 3];
-    let chart = WrittenChart::open(3, table);
+    let chart = WrittenChart::open(ports, table);
     tally.with(
         find_least(&chart, &mut costs, &mut numbers, &mut round),
         cycles,
@@ -121,22 +128,22 @@ fn try_chart(tally: Tally, table: &mut [Option<Leg<Money>>]) -> Tally {
 }
 
 // The places of a chart by its number in the family, one digit each.
-fn fill(table: &mut [Option<Leg<Money>>], number: u32, base: u32, hours: &[u32], costs: &[i64]) {
+fn fill(family: Family, table: &mut [Option<Leg<Money>>], number: u32, base: u32) {
     let mut rest = number;
     for slot in table.iter_mut() {
-        *slot = place(rest.checked_rem(base).unwrap_or(0), hours, costs);
+        *slot = place(family, rest.checked_rem(base).unwrap_or(0));
         rest = rest.checked_div(base).unwrap_or(0);
     }
 }
 
-// Every chart of so many places, at most four.
-fn family(places: usize, charts: u32, base: u32, hours: &[u32], costs: &[i64]) -> Tally {
+// So many charts of the family, of at most four places, each of which has so many codes.
+fn try_family(family: Family, places: usize, charts: u32, base: u32) -> Tally {
     let mut tally = Tally::new();
     for number in 0..charts {
         let mut table: [Option<Leg<Money>>; 4] = [None; 4];
         let part = &mut table[0..places.min(4)];
-        fill(part, number, base, hours, costs);
-        tally = try_chart(tally, part);
+        fill(family, part, number, base);
+        tally = try_chart(tally, family.ports, part);
     }
     tally
 }
@@ -154,13 +161,24 @@ fn tell(rt: &impl Print, name: &str, tally: Tally) -> io::Result<()> {
     )
 }
 
+// A place has one code for no leg, and one for each pair of ports, hours and cost.
 pub fn run(rt: &impl Print) -> io::Result<()> {
-    let four = family(4, 37 * 37 * 37 * 37, 37, &FEW_HOURS, &FEW_COSTS);
-    tell(rt, "Four legs, hours 0 and 1, costs -1 and 2", four)?;
-    let three = family(3, 109 * 109 * 109, 109, &MORE_HOURS, &MORE_COSTS);
-    tell(
-        rt,
-        "Three legs, hours 0, 2 and 3, costs -3, -2, 0 and 1",
-        three,
-    )
+    let more = Family {
+        ports: 1,
+        hours: &MORE_HOURS,
+        costs: &MORE_COSTS,
+    };
+    let one_port = try_family(more, 4, 13 * 13 * 13 * 13, 13);
+    tell(rt, "One port, four legs, hours 0, 2 and 3", one_port)?;
+    let two_ports = try_family(Family { ports: 2, ..more }, 3, 49 * 49 * 49, 49);
+    tell(rt, "Two ports, three legs, hours 0, 2 and 3", two_ports)?;
+    let three_ports = try_family(Family { ports: 3, ..more }, 3, 109 * 109 * 109, 109);
+    tell(rt, "Three ports, three legs, hours 0, 2 and 3", three_ports)?;
+    let few = Family {
+        ports: 3,
+        hours: &FEW_HOURS,
+        costs: &FEW_COSTS,
+    };
+    let four_legs = try_family(few, 4, 37 * 37 * 37 * 37, 37);
+    tell(rt, "Three ports, four legs, hours 0 and 1", four_legs)
 }
