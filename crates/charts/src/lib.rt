@@ -1,4 +1,6 @@
 // Charts of legs: what every chart shows, the two that stand over a table, and the layers that stand on any chart.
+#![tactic(auto)]
+
 pub mod chart;
 pub mod closures;
 pub mod grid;

@@ -1,4 +1,6 @@
 // Numbers in columns: the shortest decimal at the right, and blanks before it.
+#![tactic(auto)]
+
 ghost use Rattle.std.specs.Prelude.{◌≡◌, ℕ, ◌+◌, ◌-◌, ◌^◌, ◌<◌, ◌≤◌, List, length, ℤ, pos, neg_ℤ, Decides, MatchOption, ◌≢◌, slice_index, slice_set, unsigned_abs};
 ghost use Rattle.std.specs.Int.{IsInRange};
 ghost use Rattle.columns.specs.Numerals.{minus_byte, zero_byte, nine_byte, digit_bytes, signed_numeral};

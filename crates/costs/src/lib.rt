@@ -1,4 +1,6 @@
 // Cost kinds: what a cost is, the two kinds at hand, and the comparison of two rates.
+#![tactic(auto)]
+
 pub mod kind;
 pub mod money;
 pub mod money_tonnes;

@@ -1,4 +1,6 @@
 // Every limit of the rules, and the one list of refusals.
+#![tactic(auto)]
+
 pub mod refusal;
 
 ghost use Rattle.std.specs.Prelude.{◌≡◌};

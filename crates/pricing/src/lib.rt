@@ -1,4 +1,6 @@
 // A round on a chart: what it costs and takes there, and whether it is still there.
+#![tactic(auto)]
+
 pub mod kept;
 pub mod totals;
 

@@ -1,4 +1,6 @@
 // Walks, rounds, rates, weights and marks: what holds of them on every chart and for every lawful kind. The definitions stand in specs/.
+#![tactic(auto)]
+
 ghost use Rattle.std.specs.Prelude.{◌≡◌, ℕ, ◌≤◌, true};
 ghost use Rattle.limits.specs.Numbers.{most_cost};
 ghost use Rattle.rows.specs.Rows.{Row, zero_row};

@@ -1,4 +1,6 @@
 // Rows of whole numbers, the laws of a cost kind, and what follows from them. The definitions stand in specs/.
+#![tactic(auto)]
+
 ghost use Rattle.rows.specs.Kinds.{Kind, Laws};
 ghost use Rattle.rows.specs.Orders.{by_dollars, by_dollars_then_tonnes};
 ghost use Rattle.rows.specs.Theorems.{Consequences};

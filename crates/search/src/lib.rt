@@ -1,4 +1,6 @@
 // The round of least rate on a chart, found within a lent work area.
+#![tactic(auto)]
+
 pub mod area;
 pub mod back;
 pub mod bare;

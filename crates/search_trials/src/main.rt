@@ -1,4 +1,5 @@
 // Least rounds on every small chart of a family, beside those among all simple cycles, and on large charts.
+#![tactic(auto)]
 
 mod cycles;
 mod large;

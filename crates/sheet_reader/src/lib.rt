@@ -1,4 +1,6 @@
 // Chart sheets read into a table of legs: all of it, or the first line at fault and the table as it was.
+#![tactic(auto)]
+
 mod checking;
 mod fault;
 mod filling;

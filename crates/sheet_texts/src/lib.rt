@@ -1,4 +1,6 @@
 // Texts and sheets: what stands in each line of a text, and which texts are chart sheets.
+#![tactic(auto)]
+
 pub mod line;
 
 ghost use Rattle.sheet_texts.specs.Theorems.{OneSheet, SoundSheet, OneFault};

@@ -1,4 +1,6 @@
 // The reader and the writer of sheets tried on damaged sheets, at their limits, and back and forth.
+#![tactic(auto)]
+
 mod back;
 mod bounds;
 mod cases;

@@ -1,4 +1,6 @@
 // Sheets: the legs of a chart or of a round as lines of text.
+#![tactic(auto)]
+
 pub mod form;
 pub mod kind;
 mod lines;

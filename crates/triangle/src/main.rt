@@ -1,4 +1,6 @@
 // The worked example from start to finish: three ports, four legs, and which round costs least per hour.
+#![tactic(auto)]
+
 mod edges;
 mod edits;
 mod least;

@@ -1,4 +1,6 @@
 // The sheet of the worked example read back, and what is told of it where it is damaged.
+#![tactic(auto)]
+
 mod damage;
 mod legs;
 
