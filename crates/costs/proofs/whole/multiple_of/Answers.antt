@@ -3,4 +3,4 @@ use Rattle.costs.proofs.Products.{bits_product}
 use Rattle.costs.proofs.whole.multiple_of.Goals as goal
 
 pub returns : goal.returns
-returns c = bits_product c.args.n c.args.a c.cast-signed.result (omega arith) c.ranges.a c.cast-signed.ensures
+returns c = bits_product c.args.n c.args.a c.cast_signed.result (omega arith) c.ranges.a c.cast_signed.ensures

@@ -4,4 +4,4 @@ use Rattle.rows.proofs.Places.{one_times}
 use Rattle.costs.proofs.money.MoneyCostKind.multiple.Goals as goal
 
 pub returns : goal.returns
-returns c = search (rules, to_z-of_z, one_times, c.multiple-of.ensures)
+returns c = search (rules, to_z-of_z, one_times, c.multiple_of.ensures)

@@ -4,4 +4,4 @@ use Rattle.rows.proofs.Places.{one_negative}
 use Rattle.costs.proofs.money.MoneyCostKind.negated.Goals as goal
 
 pub returns : goal.returns
-returns c = search (rules, to_z-of_z, one_negative, c.negative-of.ensures)
+returns c = search (rules, to_z-of_z, one_negative, c.negative_of.ensures)

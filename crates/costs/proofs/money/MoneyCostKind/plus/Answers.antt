@@ -4,4 +4,4 @@ use Rattle.rows.proofs.Places.{one_sum}
 use Rattle.costs.proofs.money.MoneyCostKind.plus.Goals as goal
 
 pub returns : goal.returns
-returns c = search (rules, to_z-of_z, one_sum, c.sum-of.ensures)
+returns c = search (rules, to_z-of_z, one_sum, c.sum_of.ensures)
