@@ -13,5 +13,5 @@ pub returns : goal.returns
 returns c =
     let within : c.args.at + c.args.width ≤ length c.args.text.now = omega arith in
     let width : c.args.at + c.args.width - c.args.at ≡ c.args.width = omega arith in
-    let cut = c.past-blanks.ensures ∙ ap (λ (k : ℕ). past_blanks (take k (drop c.args.at c.args.text.now))) width in
+    let cut = c.past_blanks.ensures ∙ ap (λ (k : ℕ). past_blanks (take k (drop c.args.at c.args.text.now))) width in
     (numeral_found c.args.text.now _ c.args.at c.args.width c.if-width-gt-WIDEST.false within cut, refl)

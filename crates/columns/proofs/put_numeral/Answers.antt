@@ -5,14 +5,14 @@ use Rattle.columns.proofs.put_numeral.Goals as goal
 pub loop-left-init : goal.loop-left-init
 loop-left-init c = put_last_none _ _ _ _ c.requires.room c.requires.fits.0 c.requires.fits.1
 
-pub overflow-sub-first : goal.overflow-sub-first
-overflow-sub-first c = omega (arith, put_last_room c.loop-left.invariant)
+pub overflow_sub-first : goal.overflow_sub-first
+overflow_sub-first c = omega (arith, put_last_room c.loop-left.invariant)
 
 pub loop-left-preserved : goal.loop-left-preserved
-loop-left-preserved c = put_last_more _ c.digit-byte.ensures c.loop-left-test.true c.loop-left.invariant
+loop-left-preserved c = put_last_more _ c.digit_byte.ensures c.loop-left-test.true c.loop-left.invariant
 
-pub overflow-sub-first-2 : goal.overflow-sub-first-2
-overflow-sub-first-2 c = omega (arith, put_last_room c.loop-left.invariant)
+pub overflow_sub-first-2 : goal.overflow_sub-first-2
+overflow_sub-first-2 c = omega (arith, put_last_room c.loop-left.invariant)
 
 pub returns : goal.returns
-returns c = put_last_all _ c.digit-byte-2.ensures c.loop-left-test.false c.loop-left.invariant
+returns c = put_last_all _ c.digit_byte-2.ensures c.loop-left-test.false c.loop-left.invariant

@@ -4,10 +4,10 @@ use Rattle.columns.proofs.Numerals.{same_first, numeral_some, numeral_no_zero, d
 use Rattle.columns.proofs.Reading.{mapped_cases, one_byte, plain_digits, digits_plain}
 use Rattle.columns.proofs.read_numeral.Goals as goal
 
-pub returns-then-leads-with-zero : goal.returns-then-leads-with-zero
+pub returns-then-leads_with_zero : goal.returns-then-leads_with_zero
 unfolding signed_numeral
-returns-then-leads-with-zero c n is =
-    let zero = c.if-leads-with-zero.ensures.0 refl in
+returns-then-leads_with_zero c n is =
+    let zero = c.if-leads_with_zero.ensures.0 refl in
     numeral_no_zero n (sym (same_first is) ∙ zero.0) (omega (arith, zero.1, ap length is))
 
 pub returns-in-empty : goal.returns-in-empty
@@ -17,14 +17,14 @@ returns-in-empty c n is = let some = numeral_some n in let same = ap length is i
 pub returns-in-48 : goal.returns-in-48
 unfolding signed_numeral numeral
 returns-in-48 c =
-    let alone = c.if-leads-with-zero.ensures.1 in
+    let alone = c.if-leads_with_zero.ensures.1 in
     (one_byte c.args.bytes.now 48 (grind (arith, alone)) (grind arith), omega arith)
 
-pub returns-in-default : goal.returns-in-default
-returns-in-default c =
+pub returns-in_default : goal.returns-in_default
+returns-in_default c =
     let some : 0 < length c.args.bytes.now = grind arith in
     let leads : get_or c.args.bytes.now 0 0 ≡ 48 → ⊥ = (λ is. grind arith) in
-    mapped_cases c.read-digits.result
+    mapped_cases c.read_digits.result
     (λ none n is. none n (plain_digits c.args.bytes.now n leads is))
     (λ n is. (digits_plain c.args.bytes.now n some is, digit_bytes_below n 18 (omega (arith, ap length is))))
-    c.read-digits.ensures
+    c.read_digits.ensures

@@ -3,8 +3,8 @@ use lib.ListN.{get_or-eq_default}
 use Rattle.limits.specs.Numbers.{most_legs}
 use Rattle.charts.proofs.grid.hours_under.Goals as goal
 
-pub returns-then-n-lt-MOST-LEGS : goal.returns-then-n-lt-MOST-LEGS
-returns-then-n-lt-MOST-LEGS c = record { value = sym (get_or-take most_legs c.args.hours.now c.args.n 0 (omega arith)); few = λ some. omega arith }
+pub returns-then-n-lt-MOST_LEGS : goal.returns-then-n-lt-MOST_LEGS
+returns-then-n-lt-MOST_LEGS c = record { value = sym (get_or-take most_legs c.args.hours.now c.args.n 0 (omega arith)); few = λ some. omega arith }
 
 pub returns-else-n-hours : goal.returns-else-n-hours
 returns-else-n-hours c =

@@ -3,6 +3,6 @@ use Rattle.search.proofs.bare.any_round.Goals as goal
 
 pub returns : goal.returns
 returns g c = record {
-  found = some_round (g.C.Chart.meaning c.args.chart.now) _ _ c.find-bare.ensures.found;
-  numbers = c.find-bare.ensures.numbers;
+  found = some_round (g.C.Chart.meaning c.args.chart.now) _ _ c.find_bare.ensures.found;
+  numbers = c.find_bare.ensures.numbers;
 }

@@ -8,6 +8,6 @@ returns g c =
     let m = g.C.Chart.meaning c.args.chart.now in
     let e : number_places c.ports-ports.result ≡ number_places m.ports = ap number_places c.ports-ports.ensures.value in
     record {
-      found = c.search-bare-cut.ensures;
-      numbers = front_rest (number_places c.ports-ports.result) c.args.numbers.now c.search-bare-cut.new.numbers (omega (arith, c.requires.numbers)) c.search-bare-cut.auto.numbers (number_places m.ports) (omega arith);
+      found = c.search_bare_cut.ensures;
+      numbers = front_rest (number_places c.ports-ports.result) c.args.numbers.now c.search_bare_cut.new.numbers (omega (arith, c.requires.numbers)) c.search_bare_cut.auto.numbers (number_places m.ports) (omega arith);
     }

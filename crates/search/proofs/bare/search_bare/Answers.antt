@@ -5,8 +5,8 @@ use Rattle.rounds.proofs.Bare.{bare_round_of}
 use Rattle.search.proofs.BareCharts.{bare_limits, bare_none}
 use Rattle.search.proofs.bare.search_bare.Goals as goal
 
-pub find-cheaper-requires : goal.find-cheaper-requires
-find-cheaper-requires g c = record {
+pub find_cheaper-requires : goal.find_cheaper-requires
+find_cheaper-requires g c = record {
   ready = record {
     within = bare_limits g.Cost.CostKind.kind (g.C.Chart.meaning c.args.chart.now) c.requires.within c.args.idle;
     ports_are = c.requires.ports;

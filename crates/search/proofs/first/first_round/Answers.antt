@@ -3,8 +3,8 @@ use Rattle.search.specs.Area.{number_places}
 use Rattle.search.proofs.Parts.{two_rows, front_rest}
 use Rattle.search.proofs.first.first_round.Goals as goal
 
-pub slice-bounds-picked-round-end : goal.slice-bounds-picked-round-end
-slice-bounds-picked-round-end g c =
+pub slice_bounds-picked_round-end : goal.slice_bounds-picked_round-end
+slice_bounds-picked_round-end g c =
     let m = g.C.Chart.meaning c.args.chart.now in
     let p = c.ports-ports.result in
     let e : number_places p ≡ number_places m.ports = ap number_places c.ports-ports.ensures.value in
@@ -20,7 +20,7 @@ returns-in-Some g c =
     let rows = two_rows p (omega (arith, c.ports-ports.ensures.value, c.ports-ports.ensures.within.some_port)) in
     record {
       found = c.in-Some.ensures;
-      numbers = front_rest (2 * p) c.args.numbers.now c.picked-round.new.numbers (omega (arith, c.requires.numbers)) c.picked-round.auto.numbers (number_places m.ports) (omega arith);
+      numbers = front_rest (2 * p) c.args.numbers.now c.picked_round.new.numbers (omega (arith, c.requires.numbers)) c.picked_round.auto.numbers (number_places m.ports) (omega arith);
     }
 
 pub returns-in-None : goal.returns-in-None
@@ -30,7 +30,7 @@ returns-in-None g c =
     let e : number_places p ≡ number_places m.ports = ap number_places c.ports-ports.ensures.value in
     let rows = two_rows p (omega (arith, c.ports-ports.ensures.value, c.ports-ports.ensures.within.some_port)) in
     record {
-      found = c.any-round.ensures.found;
-      numbers = c.any-round.ensures.numbers
-          ∙ front_rest (2 * p) c.args.numbers.now c.picked-round.new.numbers (omega (arith, c.requires.numbers)) c.picked-round.auto.numbers (number_places m.ports) (omega arith);
+      found = c.any_round.ensures.found;
+      numbers = c.any_round.ensures.numbers
+          ∙ front_rest (2 * p) c.args.numbers.now c.picked_round.new.numbers (omega (arith, c.requires.numbers)) c.picked_round.auto.numbers (number_places m.ports) (omega arith);
     }

@@ -7,8 +7,8 @@ use Rattle.search.proofs.improve.improve.Goals as goal
 pub loop-rate-init : goal.loop-rate-init
 loop-rate-init g c = record { holds = c.requires.start; kept = λ e. (refl, refl); cheaper_than = λ e. clash e refl }
 
-pub find-cheaper-requires : goal.find-cheaper-requires
-find-cheaper-requires g c = record {
+pub find_cheaper-requires : goal.find_cheaper-requires
+find_cheaper-requires g c = record {
   ready = ready g.C.Cost.CostKind.kind g.C.Cost.CostKind.lawful g.C.Cost.CostKind.row (g.C.Chart.meaning c.args.chart.now) c.args.ports c.requires.chart _ _ c.loop-rate.invariant.holds;
   area = record {
     two_layers = c.loop-rate.auto.costs ∙ c.requires.area.two_layers;

@@ -11,11 +11,11 @@ returns g c =
     let p-is : p ≡ m.ports = c.ports-ports.ensures.value in
     let e : number_places p ≡ number_places m.ports = ap number_places p-is in
     let costs = c.args.costs.now in
-    let front = c.improve-cut.new.costs in
+    let front = c.improve_cut.new.costs in
     let suffice : 2 * p ≤ length costs = omega (arith, c.requires.area.costs_suffice) in
     record {
-      improved = c.improve-cut.ensures.improved;
-      least = least_front g.C.Cost.CostKind.kind g.C.Cost.CostKind.row m _ front (post_of 0 (2 * p - 0) costs) (omega (arith, front_length (2 * p) costs front suffice c.improve-cut.auto.costs)) c.improve-cut.ensures.least;
-      costs = front_rest (2 * p) costs front suffice c.improve-cut.auto.costs (cost_places m.ports) (omega arith);
-      numbers = front_rest (number_places p) c.args.numbers.now c.improve-cut.new.numbers (omega (arith, c.requires.area.numbers_suffice)) c.improve-cut.auto.numbers (number_places m.ports) (omega arith);
+      improved = c.improve_cut.ensures.improved;
+      least = least_front g.C.Cost.CostKind.kind g.C.Cost.CostKind.row m _ front (post_of 0 (2 * p - 0) costs) (omega (arith, front_length (2 * p) costs front suffice c.improve_cut.auto.costs)) c.improve_cut.ensures.least;
+      costs = front_rest (2 * p) costs front suffice c.improve_cut.auto.costs (cost_places m.ports) (omega arith);
+      numbers = front_rest (number_places p) c.args.numbers.now c.improve_cut.new.numbers (omega (arith, c.requires.area.numbers_suffice)) c.improve_cut.auto.numbers (number_places m.ports) (omega arith);
     }

@@ -11,5 +11,5 @@ use Rattle.sheet_reader.proofs.filling.first_leg.Goals as goal
 pub returns-in-len1-up : goal.returns-in-len1-up
 returns-in-len1-up c =
     let n = c.args.places in
-    subst (λ (cols : List ℕ). MatchOption c.read-leg.result ((l : Numbered) → LegColumns n cols l → ⊥) (λ (l : LegLine). LegColumns n cols (line_leg l) × Narrow n (row_of l.cost)))
-    (take_rest c.args.text.now 1) c.read-leg.ensures
+    subst (λ (cols : List ℕ). MatchOption c.read_leg.result ((l : Numbered) → LegColumns n cols l → ⊥) (λ (l : LegLine). LegColumns n cols (line_leg l) × Narrow n (row_of l.cost)))
+    (take_rest c.args.text.now 1) c.read_leg.ensures

@@ -4,8 +4,8 @@ use Rattle.sheet_reader.specs.Tables.{table_figures, placed, LegNext}
 use Rattle.sheet_reader.proofs.Placed.{leg_first, leg_placed, all_placed}
 use Rattle.sheet_reader.proofs.filling.place_legs.Goals as goal
 
-pub place-leg-rest-requires : goal.place-leg-rest-requires
-place-leg-rest-requires g c =
+pub place_leg-rest-requires : goal.place_leg-rest-requires
+place_leg-rest-requires g c =
     let k = g.K.CostKind.kind in
     let row = g.K.CostKind.row in
     let table = c.args.table.now in
@@ -23,13 +23,13 @@ loop-line-preserved g c =
     let rest = c.loop-line.rest.now in
     let same = c.loop-line.invariant.0 in
     let figures = table_figures row c.loop-line.table in
-    let figures' = table_figures row c.place-leg-rest.new.table in
-    let rest' = c.place-leg-rest.result.now in (
+    let figures' = table_figures row c.place_leg-rest.new.table in
+    let rest' = c.place_leg-rest.result.now in (
       omega (arith, same),
       λ ls more h. leg_placed k (length table) (c.args.legs - c.loop-line.line) rest more figures (placed ls (table_figures row table)) rest' figures' (c.args.legs - (c.loop-line.line + 1))
           (c.loop-line.invariant.1 ls more h) (omega arith)
-          (λ l after next. c.place-leg-rest.ensures.rest l after (subst (λ (size : ℕ). LegNext k size rest l after) (sym same) next))
-          (λ l after next. c.place-leg-rest.ensures.table l after (subst (λ (size : ℕ). LegNext k size rest l after) (sym same) next)),
+          (λ l after next. c.place_leg-rest.ensures.rest l after (subst (λ (size : ℕ). LegNext k size rest l after) (sym same) next))
+          (λ l after next. c.place_leg-rest.ensures.table l after (subst (λ (size : ℕ). LegNext k size rest l after) (sym same) next)),
     )
 
 pub returns : goal.returns

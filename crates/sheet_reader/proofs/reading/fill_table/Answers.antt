@@ -6,13 +6,13 @@ use Rattle.sheet_reader.specs.Tables.{table_figures, placed}
 use Rattle.sheet_reader.proofs.ReadBack.{lines_next, blank_figures, read_all}
 use Rattle.sheet_reader.proofs.reading.fill_table.Goals as goal
 
-pub place-legs-requires : goal.place-legs-requires
-place-legs-requires g c =
+pub place_legs-requires : goal.place_legs-requires
+place_legs-requires g c =
     let k = g.K.CostKind.kind in
     let w = c.requires.checked in (
       w.sheet.legs,
       last_line k.places w.sheet,
-      lines_next k (limits_of c.args.bounds) c.args.text.now (tallied c.args.tally.now) g.K.CostKind.lawful.few_places w (length c.clear-table.new.table) c.past.result.now
+      lines_next k (limits_of c.args.bounds) c.args.text.now (tallied c.args.tally.now) g.K.CostKind.lawful.few_places w (length c.clear_table.new.table) c.past.result.now
           (omega (arith, c.requires.size.0)) c.past.ensures,
     )
 
@@ -26,6 +26,6 @@ returns g c =
     let few = g.K.CostKind.lawful.few_places in
     let w = subst (λ (size : ℕ). Whole k (record { ports = c.args.bounds.ports; numbers = size }) text b) c.requires.size.0 c.requires.checked in
     let legs = w.sheet.legs in
-    let next = lines_next k (record { ports = c.args.bounds.ports; numbers = length table }) text b few w (length c.clear-table.new.table) c.past.result.now (omega arith) c.past.ensures in
-    let filled = c.place-legs.ensures legs (last_line k.places w.sheet) next ∙ ap (λ t. placed legs (table_figures row t)) c.clear-table.ensures ∙ ap (placed legs) (blank_figures row (length table)) in
-    read_all k row c.args.bounds.ports text table few c.requires.size.1 c.place-legs.new.table b w filled (omega arith)
+    let next = lines_next k (record { ports = c.args.bounds.ports; numbers = length table }) text b few w (length c.clear_table.new.table) c.past.result.now (omega arith) c.past.ensures in
+    let filled = c.place_legs.ensures legs (last_line k.places w.sheet) next ∙ ap (λ t. placed legs (table_figures row t)) c.clear_table.ensures ∙ ap (placed legs) (blank_figures row (length table)) in
+    read_all k row c.args.bounds.ports text table few c.requires.size.1 c.place_legs.new.table b w filled (omega arith)

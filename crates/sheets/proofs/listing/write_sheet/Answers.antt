@@ -7,11 +7,11 @@ use Rattle.sheets.proofs.Whole.{listed_more, listed_rest, listed_all, listed_non
 use Rattle.sheets.proofs.Progress.{Progress, progress_begun, progress_taken, not_begun, not_taken, all_put, none_short}
 use Rattle.sheets.proofs.listing.write_sheet.Goals as goal
 
-pub returns-in-err-sheet : goal.returns-in-err-sheet
-returns-in-err-sheet g c =
+pub returns-in_err-sheet : goal.returns-in_err-sheet
+returns-in_err-sheet g c =
     let legs = (listed g.K.CostKind.row c.args.form c.args.ports c.args.legs.now).legs in
-    let p = err_from_is_err_and c.from-residual.result c.from-residual.ensures.1 in
-    rw (p.1, p.2) (not_begun g.K.CostKind.kind legs c.in-err-sheet.ensures)
+    let p = err_from_is_err_and c.from_residual.result c.from_residual.ensures.1 in
+    rw (p.1, p.2) (not_begun g.K.CostKind.kind legs c.in_err-sheet.ensures)
 
 pub loop-numbered-init : goal.loop-numbered-init
 loop-numbered-init g c = λ form out p. p
@@ -28,7 +28,7 @@ loop-numbered-preserved g c = λ form out p.
     let left = subst (λ (rest : List Numbered). Progress k (sheet legs) (sheet (take i legs)) rest out (begun c.loop-numbered.sheet) c.loop-numbered.out)
     (listed_rest row form c.args.ports legs i l below c.numbered-item.is) (c.loop-numbered.invariant form out p) in
     subst (λ (done : Sheet). Progress k (sheet legs) done (sheet (drop (i + 1) legs)).legs out (begun c.leg.new.self) c.leg.new.out)
-    (listed_more row form c.args.ports legs i l below c.numbered-item.is) (progress_taken k c.in-default.ensures left (omega arith))
+    (listed_more row form c.args.ports legs i l below c.numbered-item.is) (progress_taken k c.in_default.ensures left (omega arith))
 
 pub returns-in-Err : goal.returns-in-Err
 returns-in-Err g c =
@@ -38,7 +38,7 @@ returns-in-Err g c =
     let i = c.loop-numbered.numbered-index in
     let out = c.args.out.now in
     let sheet = listed row c.args.form c.args.ports in
-    let first = progress_begun k (sheet legs).legs c.in-ok-sheet.ensures (omega arith) in
+    let first = progress_begun k (sheet legs).legs c.in_ok-sheet.ensures (omega arith) in
     let left = subst (λ (rest : List Numbered). Progress k (sheet legs) (sheet (take i legs)) rest out (begun c.loop-numbered.sheet) c.loop-numbered.out)
     (listed_rest row c.args.form c.args.ports legs i c.numbered-item.result (omega arith) c.numbered-item.is) (c.loop-numbered.invariant c.args.form out first) in
     not_taken k c.strike.new.out c.in-Err.ensures left c.strike.ensures
@@ -51,7 +51,7 @@ returns-in-Closed g c =
     let i = c.loop-numbered.numbered-index in
     let out = c.args.out.now in
     let sheet = listed row c.args.form c.args.ports in
-    let first = progress_begun k (sheet legs).legs c.in-ok-sheet.ensures (omega arith) in
+    let first = progress_begun k (sheet legs).legs c.in_ok-sheet.ensures (omega arith) in
     let none = subst (λ (rest : List Numbered). Progress k (sheet legs) (sheet (take i legs)) rest out (begun c.loop-numbered.sheet) c.loop-numbered.out)
     (listed_none row c.args.form c.args.ports legs i (omega arith)) (c.loop-numbered.invariant c.args.form out first) in
     let all = subst (λ (done : Sheet). Progress k (sheet legs) done [] out (begun c.loop-numbered.sheet) c.loop-numbered.out)
@@ -62,4 +62,4 @@ pub returns-in-Short : goal.returns-in-Short
 returns-in-Short g c =
     let k = g.K.CostKind.kind in
     let legs = (listed g.K.CostKind.row c.args.form c.args.ports c.args.legs.now).legs in
-    none_short k c.in-Short.ensures (c.loop-numbered.invariant c.args.form c.args.out.now (progress_begun k legs c.in-ok-sheet.ensures (omega arith)))
+    none_short k c.in-Short.ensures (c.loop-numbered.invariant c.args.form c.args.out.now (progress_begun k legs c.in_ok-sheet.ensures (omega arith)))

@@ -7,23 +7,23 @@ use Rattle.sheet_reader.specs.Reading.{limits_of}
 use Rattle.sheet_reader.proofs.LegLines.{leg_malformed, leg_refused, leg_line_taken}
 use Rattle.sheet_reader.proofs.reader.Reader.take_leg.Goals as goal
 
-pub returns-in-default : goal.returns-in-default
-returns-in-default g c =
-    leg_malformed g.K.CostKind.kind (limits_of c.args.bounds) c.args.columns.now c.args.self.now c.requires.wants (rw c.place-count-places.ensures at c.in-default.ensures)
+pub returns-in_default : goal.returns-in_default
+returns-in_default g c =
+    leg_malformed g.K.CostKind.kind (limits_of c.args.bounds) c.args.columns.now c.args.self.now c.requires.wants (rw c.place_count-places.ensures at c.in_default.ensures)
 
-pub returns-in-Some-refuse-line : goal.returns-in-Some-refuse-line
-returns-in-Some-refuse-line g c =
+pub returns-in-Some-refuse_line : goal.returns-in-Some-refuse_line
+returns-in-Some-refuse_line g c =
     let k = g.K.CostKind.kind in
     let line = c.in-Some.line in
-    let read : LegColumns k.places c.args.columns.now (line_leg line) × Narrow k.places (row_of line.cost) = rw c.place-count-places.ensures at c.in-Some.ensures in
-    leg_refused k (limits_of c.args.bounds) c.args.columns.now c.args.self.now c.requires.wants (line_leg line) c.in-Some-refuse-line.refusal read.0 read.1
-    (sym c.refuse-line.ensures ∙ c.in-Some-refuse-line.is)
+    let read : LegColumns k.places c.args.columns.now (line_leg line) × Narrow k.places (row_of line.cost) = rw c.place_count-places.ensures at c.in-Some.ensures in
+    leg_refused k (limits_of c.args.bounds) c.args.columns.now c.args.self.now c.requires.wants (line_leg line) c.in-Some-refuse_line.refusal read.0 read.1
+    (sym c.refuse_line.ensures ∙ c.in-Some-refuse_line.is)
 
 pub returns : goal.returns
 returns g c =
     let k = g.K.CostKind.kind in
     let line = c.in-Some.line in
-    let read : LegColumns k.places c.args.columns.now (line_leg line) × Narrow k.places (row_of line.cost) = rw c.place-count-places.ensures at c.in-Some.ensures in
-    rw (c.leg-length.ensures, c.place-count-places.ensures)
-    (leg_line_taken k (limits_of c.args.bounds) c.args.columns.now c.args.self.now c.requires.wants _ (line_leg line) c.requires.numbers read.0 read.1 c.count-line.ensures.small
-    (sym c.refuse-line.ensures ∙ c.in-default-refuse-line.is) c.requires.wants c.count-line.ensures.tally)
+    let read : LegColumns k.places c.args.columns.now (line_leg line) × Narrow k.places (row_of line.cost) = rw c.place_count-places.ensures at c.in-Some.ensures in
+    rw (c.leg_length.ensures, c.place_count-places.ensures)
+    (leg_line_taken k (limits_of c.args.bounds) c.args.columns.now c.args.self.now c.requires.wants _ (line_leg line) c.requires.numbers read.0 read.1 c.count_line.ensures.small
+    (sym c.refuse_line.ensures ∙ c.in_default-refuse_line.is) c.requires.wants c.count_line.ensures.tally)

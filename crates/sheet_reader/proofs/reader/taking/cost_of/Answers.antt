@@ -4,4 +4,4 @@ use Rattle.sheet_reader.proofs.reader.taking.cost_of.Goals as goal
 
 pub returns : goal.returns
 returns g c =
-    rows_same g.K.CostKind.kind.places (g.K.CostKind.row c.made-of.result) (row_of c.args.places) c.made-of.ensures (g.K.CostKind.narrow c.made-of.result) c.requires
+    rows_same g.K.CostKind.kind.places (g.K.CostKind.row c.made_of.result) (row_of c.args.places) c.made_of.ensures (g.K.CostKind.narrow c.made_of.result) c.requires

@@ -18,8 +18,8 @@ count-requires g c =
     let number = number_taken c.args.numbers b line.number both.0 in
     let allowed = leg_taken k b.ports (line_leg line).leg both.1 in
     record {
-      few = (omega (arith, c.place-count.ensures, g.K.CostKind.lawful.few_places), number.2);
-      fits = (omega (arith, number.0, c.requires.numbers), (allowed.few_hours, omega (arith, c.places-of.ensures.small, ap k.size c.cost-of-cost.ensures, allowed.small_cost)));
+      few = (omega (arith, c.place_count.ensures, g.K.CostKind.lawful.few_places), number.2);
+      fits = (omega (arith, number.0, c.requires.numbers), (allowed.few_hours, omega (arith, c.places_of.ensures.small, ap k.size c.cost_of-cost.ensures, allowed.small_cost)));
     }
 
 pub returns : goal.returns
@@ -27,13 +27,13 @@ returns g c =
     let k = g.K.CostKind.kind in
     let b = tallied c.args.tally.now in
     let line = c.args.line in
-    let same = c.places-of.ensures.same ∙ c.cost-of-cost.ensures in
+    let same = c.places_of.ensures.same ∙ c.cost_of-cost.ensures in
     let both = either_none (number_refusal_below c.args.numbers b line.number) (leg_refusal k b.ports (line_leg line).leg) c.requires.allowed in
     let allowed = leg_taken k b.ports (line_leg line).leg both.1 in
     record {
       tally =
           c.count.ensures
-          ∙ ap (λ (n : ℕ). counted n b line.number line.hours (row_of c.places-of.result)) c.place-count.ensures
+          ∙ ap (λ (n : ℕ). counted n b line.number line.hours (row_of c.places_of.result)) c.place_count.ensures
           ∙ ap (counted k.places b line.number line.hours) same;
-      small = omega (arith, ap largest same, c.places-of.ensures.small, ap k.size c.cost-of-cost.ensures, allowed.small_cost);
+      small = omega (arith, ap largest same, c.places_of.ensures.small, ap k.size c.cost_of-cost.ensures, allowed.small_cost);
     }

@@ -16,10 +16,10 @@ returns g c =
     let out = c.args.out.now in
     let leg = c.args.leg in
     let with_number : Figures → Numbered = λ f. record { number = c.args.number; leg = f } in
-    let same = c.plain-leg.ensures.same in
-    let count = c.place-count.ensures in
-    takes k b (begun c.write-leg.new.self) (numbered row c.args.number leg) out c.write-leg.new.out
-    (g.K.CostKind.narrow leg.cost) (subst (λ (f : Figures). largest f.cost ≤ k.size (row leg.cost)) same c.plain-leg.ensures.small)
-    (sym c.refuse-line.ensures ∙ c.in-default.is)
-    (rw count at c.write-leg.ensures.sheet ∙ ap (λ (f : Figures). with_leg k.places b (with_number f)) same)
-    (rw count at c.write-leg.ensures.bytes ∙ ap (λ (f : Figures). put out b.end (leg_line k.places (with_number f))) same)
+    let same = c.plain_leg.ensures.same in
+    let count = c.place_count.ensures in
+    takes k b (begun c.write_leg.new.self) (numbered row c.args.number leg) out c.write_leg.new.out
+    (g.K.CostKind.narrow leg.cost) (subst (λ (f : Figures). largest f.cost ≤ k.size (row leg.cost)) same c.plain_leg.ensures.small)
+    (sym c.refuse_line.ensures ∙ c.in_default.is)
+    (rw count at c.write_leg.ensures.sheet ∙ ap (λ (f : Figures). with_leg k.places b (with_number f)) same)
+    (rw count at c.write_leg.ensures.bytes ∙ ap (λ (f : Figures). put out b.end (leg_line k.places (with_number f))) same)
