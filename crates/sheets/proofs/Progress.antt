@@ -121,12 +121,12 @@ module _ (k : Kind) where
   unfolding sheet_bytes
   all_put {s = s} {out = out} {out' = out'} {out'' = out''} {b = b} {c = c} e p kept =
       let n : ℕ = k.places in
-      let last = end_line n b.legs b.hours (begun b).cost in
+      let last = end_line n (begun b).legs (begun b).hours (begun b).cost in
       let none = e.answered.0 in
       let bytes : out'' ≡ put out 0 (sheet_bytes n s) =
-      e.bytes ∙ ap (λ o. if_refused o out' (put out' b.end last)) none
-      ∙ ap (λ (xs : List ℕ). put xs b.end last) p.bytes
-      ∙ put_after out (front s) last 0 b.end (omega (arith, length_front p)) (omega arith)
+      e.bytes ∙ ap (λ o. if_refused o out' (put out' (begun b).end last)) none
+      ∙ ap (λ (xs : List ℕ). put xs (begun b).end last) p.bytes
+      ∙ put_after out (front s) last 0 (begun b).end (omega (arith, length_front p)) (omega arith)
       ∙ ap (λ (x : Begun). put out 0 (front s ++ end_line n x.legs x.hours x.cost)) p.held.numbers in
       let len : c.length ≡ length (sheet_bytes n s) =
       sym (length-take-le c.length out'' (omega (arith, e.answered.1, p.room, p.same_length, kept))) ∙ ap length (closed_held e p.held) in

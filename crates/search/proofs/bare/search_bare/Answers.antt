@@ -8,7 +8,7 @@ use Rattle.search.proofs.bare.search_bare.Goals as goal
 pub find_cheaper-requires : goal.find_cheaper-requires
 find_cheaper-requires g c = record {
   ready = record {
-    within = bare_limits g.Cost.CostKind.kind (g.C.Chart.meaning c.args.chart.now) c.requires.within c.args.idle;
+    within = bare_limits g.C.Cost.CostKind.kind (g.C.Chart.meaning c.args.chart.now) c.requires.within c.args.idle;
     ports_are = c.requires.ports;
     small_rate = record { small_cost = omega arith; few_hours = omega arith };
   };
@@ -16,7 +16,7 @@ find_cheaper-requires g c = record {
 }
 
 pub returns-in-None : goal.returns-in-None
-returns-in-None g c = bare_none g.Cost.CostKind.kind (g.C.Chart.meaning c.args.chart.now) c.requires.within c.args.idle _ one_zero c.in-None.ensures.1.best
+returns-in-None g c = bare_none g.C.Cost.CostKind.kind (g.C.Chart.meaning c.args.chart.now) c.requires.within c.args.idle _ one_zero c.in-None.ensures.1.best
 
 pub returns-in-Some : goal.returns-in-Some
 returns-in-Some g c =

@@ -13,6 +13,6 @@ returns-in-Some g c =
     let long : length c.write_round.new.out ≡ r.legs
     = omega (arith, c.write_round.auto.out, length-take (r.legs - 0) c.args.round.now, cycle.traced.few, c.requires.places.1, c.requires.picks.ports_are) in (
       cycle.traced.few,
-      cycle_round g.Cost.CostKind.kind (g.C.Chart.meaning c.args.chart.now) c.args.picks.now r cycle _
+      cycle_round g.C.Cost.CostKind.kind (g.C.Chart.meaning c.args.chart.now) c.args.picks.now r cycle _
           (subst (Turned (legs_of (g.C.Chart.meaning c.args.chart.now) 0 c.args.picks.now r)) (sym (take_at c.write_round.new.out (post_of 0 (r.legs - 0) c.args.round.now) r.legs long)) c.write_round.ensures),
     )
