@@ -1,33 +1,32 @@
 #!/usr/bin/env bash
 # Sees that the compiler refuses a begun sheet that is neither closed nor struck, and a leg line on a closed sheet.
-# Each program is written to a folder outside the tree and checked over the proved crates; the proper one has to be
-# proved, so that a refusal of another is the misuse's own.
+# Each program is written to a copy of the crates outside the tree and checked over the proved crates; the proper one has to
+# be proved, so that a refusal of another is the misuse's own.
 set -u
 root=$(cd "$(dirname "$0")/.." && pwd -P)
 folder=$(mktemp -d)
 trap 'rm -rf "$folder"' EXIT
-mkdir -p "$folder/misuse/src"
-
-cd "$root" || exit 1
-if ! rt check sheets >"$folder/said" 2>&1; then
-    echo "misuse: sheets is not proved"
-    exit 1
-fi
-uses=(-L "dependency=$root/target/rlib")
-for crate in costs charts sheets; do
-    uses+=(--extern "$crate=$root/target/rlib/$crate.rlib")
+below=$(sed -n 's/^sheets: *//p' "$root/crates.txt")
+for crate in $below sheets; do
+    mkdir -p "$folder/crates/$crate"
+    for part in src specs proofs; do
+        if [ -d "$root/crates/$crate/$part" ]; then
+            cp -r "$root/crates/$crate/$part" "$folder/crates/$crate/"
+        fi
+    done
+    grep "^$crate:" "$root/crates.txt" >>"$folder/crates.txt"
 done
+echo "misuse: $below sheets" >>"$folder/crates.txt"
+mkdir -p "$folder/crates/misuse/src"
 
 # A program that begins a sheet and puts a leg line, and then does these lines.
 program() {
-    cat >"$folder/misuse/src/main.rt" <<END
+    cat >"$folder/crates/misuse/src/main.rt" <<END
+#![tactic(auto)]
+
 use charts::Leg;
 use costs::Money;
-use costs::MoneyKind;
-use sheets::BegunSheet;
-use sheets::Closing;
-use sheets::Form;
-use sheets::MoneySheetKind;
+use sheets::{BegunSheet, Closing, Form};
 
 fn use_sheet(out: &mut [u8], leg: Leg<Money>) {
     let Ok(mut sheet) = BegunSheet::<Money>::begin(Form::Chart, 2, out) else {
@@ -38,26 +37,33 @@ fn use_sheet(out: &mut [u8], leg: Leg<Money>) {
 }
 
 fn main() {
-    let leg = Leg { from: 0, to: 1, hours: 1, cost: Money { dollars: 1 } };
+    let leg = Leg {
+        from: 0,
+        to: 1,
+        hours: 1,
+        cost: Money { dollars: 1 },
+    };
     use_sheet(&mut [0; 100], leg);
 }
 END
 }
 
 check_program() {
-    (cd "$folder" && rt check "$folder/misuse" "${uses[@]}") >"$folder/said" 2>&1
+    (cd "$folder/crates/misuse" && rt check) >"$folder/said" 2>&1
 }
 
 failed=0
 # NAME ERROR LINES: the compiler refuses the program of these lines with this error
 refused() {
     program "$3"
-    check_program
-    if grep -q "^[^ ]*main.rt:.*error\[$2\]" "$folder/said"; then
+    if check_program; then
+        echo "misuse: $1: NOT refused"
+        failed=1
+    elif grep -q "main.rt:.*error\[$2\]" "$folder/said"; then
         echo "misuse: $1: refused as expected: $2"
     else
         echo "misuse: $1: NOT refused as expected: $2"
-        sed 's/^/    /' "$folder/said" | head -20
+        grep -v '^rt: chose\|^checked ' "$folder/said" | sed 's/^/    /' | head -20
         failed=1
     fi
 }
@@ -71,7 +77,7 @@ if check_program; then
     echo "misuse: a sheet that is closed or struck: proved"
 else
     echo "misuse: a sheet that is closed or struck: NOT proved"
-    sed 's/^/    /' "$folder/said" | head -20
+    grep -v '^rt: chose\|^checked ' "$folder/said" | sed 's/^/    /' | tail -20
     failed=1
 fi
 

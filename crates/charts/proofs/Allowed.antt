@@ -1,11 +1,11 @@
 -- What is shown under the limits keeps them. Assumes nothing.
-use Rattle.std.proofs.Common.{◌≡◌, ℕ, ◌<◌, ◌≤◌, Bool, true, false, cond, ◌&&◌, ltb, leb, Some, None, refl, subst, arith}
+use Rattle.std.proofs.Common.{◌≡◌, ℕ, Bool, true, false, cond, ◌&&◌, ltb, leb, Some, None, refl, subst, arith}
 use Rattle.std.proofs.lemmas.Bool.{ltb-true, leb-true}
 use Rattle.limits.specs.Numbers.{most_hours, most_cost}
 use Rattle.limits.specs.Refusals.{if_refused}
 use Rattle.limits.specs.declared.refusal.Refusal.TheVariants.{Port, Cost, Hours}
 use Rattle.rows.specs.Kinds.{Kind}
-use Rattle.charts.specs.Meaning.{Figures, Shown, blank, leg, over, Allowed}
+use Rattle.charts.specs.Meaning.{Figures, blank, leg, over, Allowed}
 use Rattle.charts.specs.Limits.{limited}
 
 -- over is no leg

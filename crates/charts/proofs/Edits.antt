@@ -1,5 +1,5 @@
 -- What an edit of a written chart leaves. Assumes nothing.
-use Rattle.std.proofs.Common.{◌≡◌, ℕ, ◌<◌, ◌≤◌, Bool, true, false, cond, ltb, ◌⊎◌, List, length, get_or, take, set, Some, None, Option, Result, sym, refl, ap, ◌∙◌, inl, inr, arith, length-take, get_or-take, get_or-set_same}
+use Rattle.std.proofs.Common.{◌≡◌, ℕ, ◌<◌, ◌≤◌, Bool, true, false, cond, ltb, ◌⊎◌, List, length, get_or, set, Some, None, Option, Result, sym, refl, ap, ◌∙◌, inl, inr, arith, length-take, get_or-take, get_or-set_same}
 use lib.ListN.{get_or-eq_default}
 use Rattle.std.proofs.lemmas.Bool.{ltb-true, cases_lt}
 use Rattle.limits.specs.Numbers.{most_legs}

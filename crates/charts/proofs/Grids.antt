@@ -1,10 +1,10 @@
 -- What a grid of hours shows. Assumes nothing.
-use Rattle.std.proofs.Common.{◌≡◌, ℕ, zero, suc, ◌+◌, ◌/◌, ◌%◌, ◌<◌, ◌≤◌, Bool, true, false, cond, eqb, List, [], ◌∷◌, length, get_or, take, sym, refl, ap, ◌∙◌, arith, length-take}
+use Rattle.std.proofs.Common.{◌≡◌, ℕ, zero, suc, ◌+◌, ◌/◌, ◌%◌, ◌≤◌, Bool, true, false, cond, eqb, List, [], ◌∷◌, length, get_or, take, sym, refl, ap, ◌∙◌, arith, length-take}
 use Rattle.std.proofs.lemmas.Bool.Decides.{nat_tests}
 use Rattle.limits.specs.Numbers.{most_ports, most_legs}
 use Rattle.rows.specs.Rows.{Row}
 use Rattle.rows.specs.Kinds.{Kind}
-use Rattle.charts.specs.Meaning.{Figures, Shown, blank, leg, Allowed, Within, shown_at}
+use Rattle.charts.specs.Meaning.{Figures, blank, leg, Allowed, Within, shown_at}
 use Rattle.charts.specs.Limits.{limited}
 use Rattle.charts.specs.Grid.{hours_shown, hours_from, grid}
 use Rattle.charts.proofs.Allowed.{limited_allowed, blank_no_leg}

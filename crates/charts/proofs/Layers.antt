@@ -1,5 +1,5 @@
 -- What a chart with a layer on it shows. Assumes nothing.
-use Rattle.std.proofs.Common.{◌≡◌, ℕ, ◌≤◌, Bool, true, false, length, Some, None, Option, sym, refl, ap, ◌∙◌, arith}
+use Rattle.std.proofs.Common.{◌≡◌, ℕ, Bool, true, false, length, Some, None, Option, sym, refl, ap, ◌∙◌, arith}
 use lib.ListN.{length-map, get_or-map}
 use Rattle.limits.specs.Numbers.{most_ports}
 use Rattle.rows.specs.Kinds.{Kind}

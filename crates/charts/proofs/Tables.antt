@@ -1,11 +1,11 @@
 -- What a table of legs shows. Assumes nothing.
-use Rattle.std.proofs.Common.{◌≡◌, ℕ, ◌<◌, ◌≤◌, List, map, length, get_or, take, set, Some, None, Option, sym, refl, ap, ◌∙◌, arith, length-take}
+use Rattle.std.proofs.Common.{◌≡◌, ℕ, ◌<◌, ◌≤◌, List, map, length, get_or, set, Some, None, Option, sym, ap, ◌∙◌, arith, length-take}
 use lib.ListN.{length-map, get_or-map}
 use lib.Seq.{map-set, take-set-lt}
 use Rattle.limits.specs.Numbers.{most_ports, most_legs}
 use Rattle.rows.specs.Rows.{Row}
 use Rattle.rows.specs.Kinds.{Kind}
-use Rattle.charts.specs.Meaning.{Figures, Shown, leg, Meaning, Allowed, Within, shown_at, with_entry}
+use Rattle.charts.specs.Meaning.{Figures, Shown, leg, Allowed, Within, shown_at, with_entry}
 use Rattle.charts.specs.Reading.{figures_of}
 use Rattle.charts.specs.Written.{places_read, place_shown, written}
 use Rattle.charts.specs.declared.leg.Leg.{Leg}

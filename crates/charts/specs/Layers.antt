@@ -1,5 +1,5 @@
 -- Charts that stand on another: what each leg becomes, and blank and over stay as they are. Assumes nothing.
-use Rattle.std.specs.Prelude.{◌≡◌, ℕ, ◌+◌, Bool, true, false, cond, ◌||◌, List, map, Some, None, Option, slice_index, slice_index_or}
+use Rattle.std.specs.Prelude.{ℕ, ◌+◌, Bool, true, false, cond, ◌||◌, List, map, Some, None, Option, slice_index, slice_index_or}
 use Rattle.rows.specs.Rows.{Row, sum, times}
 use Rattle.rows.specs.Kinds.{Kind}
 use Rattle.charts.specs.Meaning.{Figures, Shown, blank, leg, over, Meaning, nothing}

@@ -1,5 +1,5 @@
 -- Which limit figures break first, if any. Assumes nothing.
-use Rattle.std.specs.Prelude.{ℕ, cond, not, ◌&&◌, Some, None, Option, nat_le, nat_lt}
+use Rattle.std.specs.Prelude.{ℕ, cond, ◌&&◌, Some, None, Option, nat_le, nat_lt}
 use Rattle.limits.specs.Numbers.{most_hours, most_cost}
 use Rattle.limits.specs.Refusals.{if_refused}
 use Rattle.limits.specs.declared.refusal.Refusal.{Refusal}

@@ -6,7 +6,7 @@ use Rattle.limits.specs.declared.refusal.Refusal.{Refusal}
 use Rattle.limits.specs.declared.refusal.Refusal.TheVariants.{NumberTaken, Number, Length}
 use Rattle.rows.specs.Rows.{Row}
 use Rattle.rows.specs.Kinds.{Kind}
-use Rattle.charts.specs.Meaning.{Figures, Shown, blank, Meaning}
+use Rattle.charts.specs.Meaning.{Shown, blank, Meaning}
 use Rattle.charts.specs.Limits.{port_count_refusal, price_refusal, leg_refusal, limited}
 use Rattle.charts.specs.Reading.{figures_of}
 use Rattle.charts.specs.declared.leg.Leg.{Leg}

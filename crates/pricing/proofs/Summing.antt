@@ -1,11 +1,11 @@
 -- One leg more in a sum of costs and hours. Assumes nothing.
-use Rattle.std.proofs.Common.{◌≡◌, ℕ, suc, ◌+◌, ◌-◌, ◌*◌, ◌^◌, ◌<◌, ◌≤◌, min, List, [], ◌∷◌, ◌++◌, length, get_or, take, sym, refl, ap, ◌∙◌, mul-le-mul_right, add-one, arith, take-suc}
+use Rattle.std.proofs.Common.{◌≡◌, ℕ, ◌+◌, ◌-◌, ◌*◌, ◌^◌, ◌<◌, ◌≤◌, min, List, [], ◌∷◌, ◌++◌, length, get_or, take, sym, refl, ap, ◌∙◌, mul-le-mul_right, add-one, arith, take-suc}
 use Rattle.limits.specs.Numbers.{most_legs, most_hours, most_cost, exact_size}
-use Rattle.rows.specs.Rows.{Row, zero_row, sum}
+use Rattle.rows.specs.Rows.{Row, sum}
 use Rattle.rows.specs.Kinds.{Kind, Laws}
 use Rattle.charts.specs.Meaning.{Meaning, Shown, blank, leg, over, Figures, Within, shown_at}
 use Rattle.rounds.specs.Legs.{figures_at, shown_figures}
-use Rattle.rounds.specs.Rates.{sum_of, cost_of, hours_of}
+use Rattle.rounds.specs.Rates.{cost_of, hours_of}
 use Rattle.rounds.proofs.Walks.{sum_push, hours_append}
 use Rattle.pricing.specs.Totals.{Summed}
 

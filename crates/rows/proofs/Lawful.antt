@@ -1,8 +1,8 @@
 -- The kinds at hand keep the laws. Assumes nothing.
-use Rattle.std.proofs.Common.{◌≡◌, ℕ, ◌*◌, ◌≤◌, max, nat_abs, refl, mul-le-mul_left, arith, lit≤}
+use Rattle.std.proofs.Common.{◌*◌, ◌≤◌, max, nat_abs, refl, mul-le-mul_left, arith, lit≤}
 use Rattle.std.proofs.lemmas.Int.{ints}
-use Rattle.rows.specs.Rows.{Row, zero_row, sum, negative, times}
-use Rattle.rows.specs.Kinds.{Kind, Laws}
+use Rattle.rows.specs.Rows.{zero_row, sum, negative, times}
+use Rattle.rows.specs.Kinds.{Laws}
 use Rattle.rows.specs.Orders.{by_dollars, by_dollars_then_tonnes}
 use Rattle.rows.proofs.Integers.{abs_times, abs_negative, lt_z_shifted}
 

@@ -1,7 +1,7 @@
 -- Order, sums and multiples under a lawful kind. Assumes nothing.
-use Rattle.std.proofs.Common.{◌≡◌, ℕ, zero, suc, ◌<◌, Bool, true, false, sym, refl, ap, ◌∙◌, arith}
+use Rattle.std.proofs.Common.{◌≡◌, ℕ, zero, suc, Bool, true, false, sym, refl, ap, ◌∙◌, arith}
 use Rattle.rows.specs.Rows.{Row, zero_row, sum, negative, times}
-use Rattle.rows.specs.Kinds.{Kind, Laws, Level, cheaper}
+use Rattle.rows.specs.Kinds.{Kind, Laws}
 use Rattle.rows.specs.Theorems.{SumsKeepLevel, MultiplesKeepBelow, MultiplesKeepLevel, CheaperTransitive, Consequences}
 use Rattle.rows.proofs.Group.{sum_comm, sum_negative, times_zero, times_one, times_suc, times_swap}
 use Rattle.rows.proofs.Order.{le_trans, below_or_level}

@@ -1,7 +1,7 @@
 -- Rows of one and of two places: what their sums and multiples are, and that they are 0 past those places. Assumes nothing.
-use Rattle.std.proofs.Common.{◌≡◌, ℕ, zero, suc, ◌≤◌, ℤ, pos, ◌+ℤ◌, ◌*ℤ◌, neg_ℤ, sym, refl, ap, ◌∙◌, arith}
+use Rattle.std.proofs.Common.{◌≡◌, ℕ, zero, suc, ℤ, pos, ◌+ℤ◌, ◌*ℤ◌, neg_ℤ, sym, refl, ap, ◌∙◌, arith}
 use lib.IntN.{*ℤ-zero}
-use Rattle.rows.specs.Rows.{Row, zero_row, sum, negative, times, place, one_place, two_places, Narrow}
+use Rattle.rows.specs.Rows.{zero_row, sum, negative, times, one_place, two_places, Narrow}
 use Rattle.rows.proofs.Group.{by_places}
 
 pub two_zero : two_places (pos 0) (pos 0) ≡ zero_row

@@ -1,6 +1,5 @@
 -- The kinds at hand: which row is below which, and the size of a row. Assumes nothing.
-use Rattle.std.specs.Prelude.{ℕ, max, Bool, not, ◌&&◌, ◌||◌, ℤ, int_lt, unsigned_abs}
-use Rattle.rows.specs.Rows.{Row}
+use Rattle.std.specs.Prelude.{max, not, ◌&&◌, ◌||◌, int_lt, unsigned_abs}
 use Rattle.rows.specs.Kinds.{Kind}
 
 -- dollars, in the usual order

@@ -1,7 +1,7 @@
 -- What follows for every kind that keeps the laws. Assumes nothing.
-use Rattle.std.specs.Prelude.{◌≡◌, ℕ, ◌<◌, Bool, true, false, ◌⊎◌}
+use Rattle.std.specs.Prelude.{◌≡◌, ℕ, ◌<◌, true, ◌⊎◌}
 use Rattle.rows.specs.Rows.{Row, sum, times}
-use Rattle.rows.specs.Kinds.{Kind, Laws, Level, cheaper}
+use Rattle.rows.specs.Kinds.{Kind, Level, cheaper}
 
 -- of two rows one is below the other, or they are level
 abbrev pub BelowOrLevel : Kind → Type 0

@@ -8,7 +8,6 @@ use Rattle.charts.specs.Meaning.{Meaning}
 use Rattle.rounds.specs.Rates.{NoIdleRound}
 use Rattle.rounds.specs.Rates.{IdleRound as Idle}
 use Rattle.rounds.specs.Walks.{ClosedWalk}
-use Rattle.search.specs.Area.{Lent}
 use Rattle.search.specs.Over.{SomeOver}
 use Rattle.search.specs.Search.{Holds, Least}
 use Rattle.search.specs.declared.round.Held.{Held}

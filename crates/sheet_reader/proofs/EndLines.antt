@@ -1,12 +1,12 @@
 -- What comes of an end line. Assumes nothing.
-use Rattle.std.proofs.Common.{◌≡◌, ℕ, ◌+◌, ◌<◌, ◌≤◌, List, [], ◌∷◌, ◌++◌, length, drop, nat_abs, sym, refl, ap, ◌∙◌, subst, arith}
+use Rattle.std.proofs.Common.{◌≡◌, ℕ, ◌+◌, ◌≤◌, List, ◌∷◌, ◌++◌, length, drop, nat_abs, sym, ap, ◌∙◌, subst, arith}
 use Rattle.std.proofs.lemmas.List.{append_assoc}
 use Rattle.limits.specs.Numbers.{most_places}
 use Rattle.limits.specs.declared.refusal.Refusal.TheVariants.{Malformed}
 use Rattle.rows.specs.Rows.{Row, Narrow}
 use Rattle.rows.specs.Kinds.{Kind}
 use Rattle.columns.proofs.Columns.{shows_same}
-use Rattle.sheets.specs.Form.{leg_letter, end_letter, Numbered, Sheet, leg_line, end_line, end_length, sheet_bytes, summed_hours, summed_cost}
+use Rattle.sheets.specs.Form.{end_letter, Sheet, end_line, end_length, sheet_bytes, summed_hours, summed_cost}
 use Rattle.sheets.specs.Begun.{Begun, tallied}
 use Rattle.sheets.specs.Writing.{numbers_of}
 use Rattle.sheets.proofs.Sums.{rows_same}

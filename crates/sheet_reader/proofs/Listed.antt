@@ -1,7 +1,7 @@
 -- The legs of a table are those that were put into it. Assumes nothing.
 use Rattle.std.proofs.Common.{◌≡◌, ℕ, zero, suc, ◌+◌, ◌-◌, ◌<◌, List, [], ◌∷◌, ◌++◌, length, set, replicate, Some, None, Option, sym, refl, ap, ◌∙◌, subst, arith}
 use Rattle.std.specs.List.{AllByRecursion as All}
-use Rattle.std.proofs.lemmas.List.{append_assoc, append-nil, length-append, length-replicate, set_at}
+use Rattle.std.proofs.lemmas.List.{append_assoc, length-append, length-replicate, set_at}
 use Rattle.rows.specs.Kinds.{Kind}
 use Rattle.charts.specs.Meaning.{Figures}
 use Rattle.sheets.specs.declared.form.Form.TheVariants.{Chart}

@@ -1,5 +1,5 @@
 -- The leg of a line, found again in a text that was checked, and put into a table. Assumes nothing.
-use Rattle.std.proofs.Common.{◌≡◌, ℕ, List, [], ◌∷◌, ◌++◌, drop, sym, refl, ap, ◌∙◌, subst, arith}
+use Rattle.std.proofs.Common.{◌≡◌, ℕ, List, [], ◌∷◌, ◌++◌, drop, sym, ap, ◌∙◌, subst, arith}
 use mathlib.Core.List.{append_cancel_left}
 use Rattle.rows.specs.Rows.{Narrow}
 use Rattle.rows.specs.Kinds.{Kind}
@@ -8,7 +8,7 @@ use Rattle.sheets.specs.Form.{leg_letter, Numbered, leg_line, leg_length}
 use Rattle.sheet_texts.specs.Columns.{LegColumns}
 use Rattle.sheet_texts.proofs.Lines.{leg_columns_line, leg_line_columns}
 use Rattle.sheet_texts.proofs.Same.{leg_columns_same}
-use Rattle.sheet_reader.specs.Tables.{Placeable, LegNext}
+use Rattle.sheet_reader.specs.Tables.{LegNext}
 
 -- a text that begins with a leg line
 pub record FirstLine (n : ℕ) (text : List ℕ) (l : Numbered) (more : List ℕ) : Type 0 where

@@ -1,5 +1,5 @@
 -- What is read of a text is what it was written from. Assumes nothing.
-use Rattle.std.proofs.Common.{◌≡◌, ℕ, zero, suc, ◌<◌, ◌≤◌, List, [], ◌∷◌, ◌++◌, map, length, drop, replicate, None, Ok, Option, sym, refl, ap, ◌∙◌, subst, arith}
+use Rattle.std.proofs.Common.{◌≡◌, ℕ, zero, suc, ◌<◌, ◌≤◌, List, [], ◌∷◌, ◌++◌, length, drop, replicate, None, Ok, Option, sym, refl, ap, ◌∙◌, subst, arith}
 use Rattle.std.specs.List.{AllByRecursion as All}
 use Rattle.std.proofs.lemmas.List.{append_assoc, drop_at}
 use Rattle.limits.specs.Numbers.{most_ports, most_legs, most_places}
@@ -17,7 +17,7 @@ use Rattle.sheet_texts.specs.Faults.{Limits, Readable, last_line}
 use Rattle.sheet_texts.proofs.Same.{proper_leg_fits}
 use Rattle.sheet_texts.proofs.OneSheet.{one_sheet}
 use Rattle.sheet_reader.specs.Reading.{Whole}
-use Rattle.sheet_reader.specs.Tables.{place_figures, table_figures, placed, table_of, chart_sheet, Placeable, LegsNext, Reads}
+use Rattle.sheet_reader.specs.Tables.{table_figures, table_of, chart_sheet, Placeable, LegsNext, Reads}
 use Rattle.sheet_reader.proofs.Listed.{legs_listed}
 
 -- the legs of a sheet can all be put into a table that is long enough

@@ -1,11 +1,10 @@
 -- The places of a cost, read one after the other. Assumes nothing.
-use Rattle.std.proofs.Common.{◌≡◌, ℕ, zero, suc, ◌+◌, ◌*◌, ◌<◌, ◌≤◌, List, ℤ, pos, sym, refl, ap, ◌∙◌, subst, ⊎_elim, mul-zero, mul-one, mul-add, arith}
+use Rattle.std.proofs.Common.{◌≡◌, ℕ, zero, suc, ◌+◌, ◌*◌, List, ℤ, pos, sym, refl, ◌∙◌, subst, ⊎_elim, mul-zero, mul-one, mul-add, arith}
 use Rattle.std.proofs.lemmas.Bool.{cases_lt}
-use Rattle.rows.specs.Rows.{Row, place, Narrow}
+use Rattle.rows.specs.Rows.{place}
 use Rattle.columns.specs.Columns.{Shows}
 use Rattle.sheets.specs.declared.places.Places.{Places}
 use Rattle.sheets.specs.Places.{row_of}
-use Rattle.sheet_texts.specs.Columns.{ShowsPlaces}
 use Rattle.sheet_texts.specs.Lines.{Replaced, ReadPlaces}
 
 narrow_none : (i : ℕ) → place (record { first = pos 0; second = pos 0; third = pos 0; fourth = pos 0 }) i ≡ pos 0

@@ -1,5 +1,5 @@
 -- Which texts are chart sheets that can be read, and at which line any other text is at fault, and why. Assumes nothing.
-use Rattle.std.specs.Prelude.{◌≡◌, ℕ, ◌+◌, ◌<◌, ◌≤◌, min, List, [], ◌∷◌, ◌++◌, length, pos, Some, Option, ◌≢◌}
+use Rattle.std.specs.Prelude.{◌≡◌, ℕ, ◌+◌, ◌<◌, ◌≤◌, min, List, [], ◌++◌, length, pos, Some, Option, ◌≢◌}
 use Rattle.std.specs.List.{AllByRecursion as All}
 use Rattle.limits.specs.Numbers.{most_ports}
 use Rattle.limits.specs.Refusals.{or_refusal}

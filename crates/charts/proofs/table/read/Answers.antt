@@ -1,4 +1,4 @@
-use Rattle.std.proofs.Common.{get_or, None, sym, refl, ap, ◌∙◌}
+use Rattle.std.proofs.Common.{get_or, None, sym, ap, ◌∙◌}
 use Rattle.charts.specs.Written.{place_shown}
 use Rattle.charts.proofs.Tables.{shown_place}
 use Rattle.charts.proofs.table.read.Goals as goal

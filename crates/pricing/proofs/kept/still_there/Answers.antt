@@ -1,4 +1,4 @@
-use Rattle.std.proofs.Common.{map, take, sym, ap, ◌∙◌, take_all}
+use Rattle.std.proofs.Common.{map, sym, ap, ◌∙◌, take_all}
 use Rattle.rounds.specs.Standing.{still_there}
 use Rattle.pricing.specs.Kept.{kept_joined}
 use Rattle.pricing.proofs.StillThere.{still_more, not_still}

@@ -1,4 +1,4 @@
-use Rattle.std.proofs.Common.{◌≡◌, ℕ, ◌-◌, ◌≤◌, List, length, take, ap, subst, arith, length-take, rules}
+use Rattle.std.proofs.Common.{◌≡◌, ℕ, ◌-◌, ◌≤◌, length, take, subst, arith, length-take, rules}
 use Rattle.limits.specs.Numbers.{most_legs}
 use Rattle.pricing.specs.Totals.{Totals}
 use Rattle.search.proofs.find.find_least.Goals as goal

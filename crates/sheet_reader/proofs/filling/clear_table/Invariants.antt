@@ -1,4 +1,4 @@
-use Rattle.std.proofs.Common.{◌≡◌, length, replicate, None}
+use Rattle.std.proofs.Common.{◌≡◌, replicate, None}
 use lib.Seq.{paste}
 use Rattle.sheet_reader.proofs.filling.clear_table.Given as goal
 

@@ -1,11 +1,8 @@
-use Rattle.std.proofs.Common.{◌≡◌, ℕ, drop, set, Some, sym, refl, ap, ◌∙◌, subst}
+use Rattle.std.proofs.Common.{◌≡◌, ℕ, drop, set, Some, sym, ap, ◌∙◌, subst}
 use Rattle.std.proofs.lemmas.List.{map-set}
 use Rattle.limits.specs.Numbers.{most_ports}
-use Rattle.rows.specs.Rows.{Narrow}
 use Rattle.charts.specs.Meaning.{Figures, Allowed}
 use Rattle.sheets.specs.Form.{Numbered, leg_length}
-use Rattle.sheets.specs.Places.{row_of}
-use Rattle.sheet_texts.specs.Columns.{LegColumns}
 use Rattle.sheet_texts.specs.Lines.{line_leg}
 use Rattle.sheet_reader.specs.Tables.{place_figures, table_figures}
 use Rattle.sheet_reader.proofs.Placing.{first_line, read_same}

@@ -1,4 +1,4 @@
-use Rattle.std.proofs.Common.{◌≡◌, ℕ, ◌+◌, ◌-◌, List, length, set, Some, sym, ◌∙◌, subst, arith}
+use Rattle.std.proofs.Common.{ℕ, ◌+◌, ◌-◌, List, length, sym, subst, arith}
 use Rattle.sheets.specs.Form.{Numbered}
 use Rattle.sheet_reader.specs.Tables.{table_figures, placed, LegNext}
 use Rattle.sheet_reader.proofs.Placed.{leg_first, leg_placed, all_placed}

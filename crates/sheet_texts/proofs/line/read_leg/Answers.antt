@@ -1,4 +1,4 @@
-use Rattle.std.proofs.Common.{◌≡◌, ℕ, ◌+◌, ◌*◌, pos, sym, subst, arith}
+use Rattle.std.proofs.Common.{◌≡◌, ℕ, pos, sym, subst, arith}
 use Rattle.columns.specs.Columns.{Shows}
 use Rattle.sheet_texts.specs.Columns.{ShowsPlaces}
 use Rattle.sheet_texts.proofs.line.read_leg.Goals as goal

@@ -1,4 +1,4 @@
-use Rattle.std.proofs.Common.{rules, ℤ, to_z, of_z, w64, subst}
+use Rattle.std.proofs.Common.{rules, ℤ, w64, subst}
 use Rattle.std.proofs.lemmas.Int.{to_z-of_z}
 use Rattle.sheets.specs.Places.{row_of}
 use Rattle.sheet_texts.specs.Lines.{Replaced}

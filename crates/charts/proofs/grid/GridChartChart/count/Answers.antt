@@ -1,4 +1,4 @@
-use Rattle.std.proofs.Common.{◌+◌, sym, ◌∙◌, arith, length-take}
+use Rattle.std.proofs.Common.{◌+◌, arith, length-take}
 use Rattle.limits.specs.Numbers.{most_legs}
 use Rattle.rows.specs.Orders.{by_dollars}
 use Rattle.rows.specs.Rows.{one_place}

@@ -1,4 +1,4 @@
-use Rattle.std.proofs.Common.{◌≡◌, ℕ, min, Some, None, sym, refl, ◌∙◌, subst}
+use Rattle.std.proofs.Common.{◌≡◌, min, Some, None, sym, refl, ◌∙◌}
 use Rattle.limits.specs.Numbers.{most_ports}
 use Rattle.charts.specs.Limits.{port_count_refusal}
 use Rattle.sheet_texts.specs.Columns.{HeadColumns}

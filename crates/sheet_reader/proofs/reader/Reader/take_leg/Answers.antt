@@ -1,4 +1,4 @@
-use Rattle.std.proofs.Common.{◌≡◌, sym, refl, ◌∙◌}
+use Rattle.std.proofs.Common.{sym, ◌∙◌}
 use Rattle.rows.specs.Rows.{Narrow}
 use Rattle.sheets.specs.Places.{row_of}
 use Rattle.sheet_texts.specs.Columns.{LegColumns}

@@ -1,4 +1,4 @@
-use Rattle.std.proofs.Common.{◌≡◌, ℕ, List, ◌∷◌, length, sym, refl, ◌∙◌, subst, arith, rules}
+use Rattle.std.proofs.Common.{ℕ, List, subst, arith, rules}
 use Rattle.sheet_reader.specs.Reading.{limits_of, TakesLine}
 use Rattle.sheet_reader.proofs.OtherLines.{no_head_letter, no_line_letter, text_left_over, text_out, first_then}
 use Rattle.sheet_reader.proofs.reader.Reader.take_line.Goals as goal

@@ -1,8 +1,5 @@
-use Rattle.std.proofs.Common.{◌≡◌, ℕ, ◌≤◌, sym, ap, ◌∙◌, subst, arith}
-use Rattle.limits.specs.Numbers.{most_cost}
-use Rattle.rows.specs.Rows.{Row}
+use Rattle.std.proofs.Common.{ℕ, ap, ◌∙◌, arith}
 use Rattle.charts.specs.Limits.{leg_refusal}
-use Rattle.charts.specs.Meaning.{Allowed}
 use Rattle.sheets.specs.Places.{row_of, largest}
 use Rattle.sheets.specs.Begun.{tallied, counted, number_refusal_below}
 use Rattle.sheets.proofs.Taken.{either_none, number_taken, leg_taken}
