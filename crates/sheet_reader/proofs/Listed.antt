@@ -1,6 +1,6 @@
 -- The legs of a table are those that were put into it. Assumes nothing.
 use Rattle.std.proofs.Common.{◌≡◌, ℕ, zero, suc, ◌+◌, ◌-◌, ◌<◌, List, [], ◌∷◌, ◌++◌, length, set, replicate, Some, None, Option, sym, refl, ap, ◌∙◌, subst, arith}
-use Rattle.std.specs.List.{AllByRecursion as All}
+use Rattle.std.specs.List.{AllByRecursion}
 use Rattle.std.proofs.lemmas.List.{append_assoc, length-append, length-replicate, set_at}
 use Rattle.rows.specs.Kinds.{Kind}
 use Rattle.charts.specs.Meaning.{Figures}
@@ -55,7 +55,7 @@ legs_more front j l is =
     ∙ ap (λ (n : ℕ). record { number = n; leg = l.leg } ∷ []) at)
 
 legs_placed : (k : Kind) (p : ℕ) (front : List (Option Figures)) (m : ℕ) (ls : List Numbered) → ProperLegs k Chart p (length front) ls
-    → All (λ (l : Numbered). l.number < length front + m) ls → legs_from 0 (placed ls (front ++ blanks m)) ≡ legs_from 0 front ++ ls
+    → AllByRecursion (λ (l : Numbered). l.number < length front + m) ls → legs_from 0 (placed ls (front ++ blanks m)) ≡ legs_from 0 front ++ ls
 legs_placed k p front m [] proper below =
     legs_append 0 front (blanks m) ∙ ap (λ (ls : List Numbered). legs_from 0 front ++ ls) (legs_blank (0 + length front) m)
 legs_placed k p front m (l ∷ ls) proper below =
@@ -69,12 +69,12 @@ legs_placed k p front m (l ∷ ls) proper below =
     ap (λ (n : ℕ). legs_from 0 (placed ls (set (front ++ blanks m) n (Some l.leg)))) (sym at)
     ∙ ap (λ (t : List (Option Figures)). legs_from 0 (placed ls t)) (set_blank front j m l.leg within)
     ∙ legs_placed k p front' (m - j - 1) ls (subst (λ (n : ℕ). ProperLegs k Chart p n ls) (sym long) proper.1)
-    (subst (λ (n : ℕ). All (λ (x : Numbered). x.number < n) ls) room below.1)
+    (subst (λ (n : ℕ). AllByRecursion (λ (x : Numbered). x.number < n) ls) room below.1)
     ∙ ap (λ (xs : List Numbered). xs ++ ls) (legs_more front j l (sym at))
     ∙ append_assoc (legs_from 0 front) (l ∷ []) ls
 
 -- a table of legs that rise lists just them
-pub legs_listed : (k : Kind) (p size : ℕ) (ls : List Numbered) → ProperLegs k Chart p 0 ls → All (λ (l : Numbered). l.number < size) ls → legs_from 0 (table_of size ls) ≡ ls
+pub legs_listed : (k : Kind) (p size : ℕ) (ls : List Numbered) → ProperLegs k Chart p 0 ls → AllByRecursion (λ (l : Numbered). l.number < size) ls → legs_from 0 (table_of size ls) ≡ ls
 legs_listed k p size ls proper below =
     let none : size ≡ length {A = Option Figures} [] + size = omega arith in
-    legs_placed k p [] size ls proper (subst (λ (n : ℕ). All (λ (l : Numbered). l.number < n) ls) none below)
+    legs_placed k p [] size ls proper (subst (λ (n : ℕ). AllByRecursion (λ (l : Numbered). l.number < n) ls) none below)

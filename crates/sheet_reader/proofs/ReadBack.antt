@@ -1,6 +1,6 @@
 -- What is read of a text is what it was written from. Assumes nothing.
 use Rattle.std.proofs.Common.{◌≡◌, ℕ, zero, suc, ◌<◌, ◌≤◌, List, [], ◌∷◌, ◌++◌, length, drop, replicate, None, Ok, Option, sym, refl, ap, ◌∙◌, subst, arith}
-use Rattle.std.specs.List.{AllByRecursion as All}
+use Rattle.std.specs.List.{AllByRecursion}
 use Rattle.std.proofs.lemmas.List.{append_assoc, drop_at}
 use Rattle.limits.specs.Numbers.{most_ports, most_legs, most_places}
 use Rattle.rows.specs.Rows.{Row}
@@ -21,7 +21,7 @@ use Rattle.sheet_reader.specs.Tables.{table_figures, table_of, chart_sheet, Plac
 use Rattle.sheet_reader.proofs.Listed.{legs_listed}
 
 -- the legs of a sheet can all be put into a table that is long enough
-placeable_legs : (k : Kind) (form : Form) (p least size : ℕ) (ls : List Numbered) → p ≤ most_ports → ProperLegs k form p least ls → All (λ (l : Numbered). l.number < size) ls → All (Placeable k size) ls
+placeable_legs : (k : Kind) (form : Form) (p least size : ℕ) (ls : List Numbered) → p ≤ most_ports → ProperLegs k form p least ls → AllByRecursion (λ (l : Numbered). l.number < size) ls → AllByRecursion (Placeable k size) ls
 placeable_legs k form p least size [] few proper below = tt
 placeable_legs k form p least size (l ∷ ls) few proper below =
     let allowed = proper.0.allowed in (
@@ -42,7 +42,7 @@ lines_next k m text b few w size rest same rest_is =
     let n : ℕ = k.places in
     let s : Sheet = w.sheet in
     let head : List ℕ = head_line n s.form s.ports in
-    let below = subst (λ (j : ℕ). All (λ (l : Numbered). l.number < j) s.legs) same w.readable.numbers_below in
+    let below = subst (λ (j : ℕ). AllByRecursion (λ (l : Numbered). l.number < j) s.legs) same w.readable.numbers_below in
     record {
       placeable = placeable_legs k s.form s.ports 0 size s.legs w.readable.proper.few_ports w.readable.proper.legs_proper below;
       count = sym (ap (λ (x : Begun). x.legs) w.numbers);

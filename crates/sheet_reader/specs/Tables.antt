@@ -1,6 +1,6 @@
 -- A table of legs by its figures, and what reading a sheet into it answers and leaves. Assumes nothing.
 use Rattle.std.specs.Prelude.{◌≡◌, ℕ, ◌+◌, ◌<◌, ◌≤◌, List, [], ◌∷◌, ◌++◌, map, length, replicate, Some, None, Ok, Option, Result, MatchResult, slice_set}
-use Rattle.std.specs.List.{AllByRecursion as All}
+use Rattle.std.specs.List.{AllByRecursion}
 use Rattle.limits.specs.Numbers.{most_ports, most_legs}
 use Rattle.limits.specs.declared.refusal.Refusal.TheVariants.{Length}
 use Rattle.rows.specs.Rows.{Row, Narrow}
@@ -52,7 +52,7 @@ LegNext k size rest l more = Placeable k size l × (rest ≡ leg_line k.places l
 
 -- a text begins with the lines of legs, so many of them, that can all be put into a table of so many places
 pub record LegsNext (k : Kind) (size legs : ℕ) (text : List ℕ) (ls : List Numbered) (more : List ℕ) : Type 0 where
-  pub placeable : All (Placeable k size) ls
+  pub placeable : AllByRecursion (Placeable k size) ls
   pub count : length ls ≡ legs
   pub lines : text ≡ leg_lines k.places ls ++ more
 

@@ -1,6 +1,6 @@
 -- A text is the front of one sheet at most, where no leg line follows that may come next. Assumes nothing.
 use Rattle.std.proofs.Common.{◌≡◌, ℕ, ◌<◌, ◌≤◌, min, List, [], ◌∷◌, ◌++◌, length, pos, Some, None, Option, sym, refl, ap, ◌∙◌, subst, arith}
-use Rattle.std.specs.List.{AllByRecursion as All}
+use Rattle.std.specs.List.{AllByRecursion}
 use Rattle.std.proofs.lemmas.List.{append_assoc, append-nil, length-append}
 use Rattle.std.proofs.lemmas.Bool.{lt-ltb, le-leb, and_from, cond-true}
 use Rattle.limits.specs.Numbers.{most_ports, most_legs, most_hours, most_cost, most_places}
@@ -73,7 +73,7 @@ proper_between : (k : Kind) (form : Form) (p least : ℕ) (ls : List Numbered) (
 proper_between k form p least [] l others proper = proper.0
 proper_between k form p least (x ∷ ls) l others proper = proper_between k form p (least_after form x.number) ls l others proper.1
 
-all_between : (P : Numbered → Type 0) (ls : List Numbered) (l : Numbered) (others : List Numbered) → All P (ls ++ (l ∷ others)) → P l
+all_between : (P : Numbered → Type 0) (ls : List Numbered) (l : Numbered) (others : List Numbered) → AllByRecursion P (ls ++ (l ∷ others)) → P l
 all_between P [] l others all = all.0
 all_between P (x ∷ ls) l others all = all_between P ls l others all.1
 

@@ -1,6 +1,6 @@
 -- Which texts are chart sheets that can be read, and at which line any other text is at fault, and why. Assumes nothing.
 use Rattle.std.specs.Prelude.{◌≡◌, ℕ, ◌+◌, ◌<◌, ◌≤◌, min, List, [], ◌++◌, length, pos, Some, Option, ◌≢◌}
-use Rattle.std.specs.List.{AllByRecursion as All}
+use Rattle.std.specs.List.{AllByRecursion}
 use Rattle.limits.specs.Numbers.{most_ports}
 use Rattle.limits.specs.Refusals.{or_refusal}
 use Rattle.limits.specs.declared.refusal.Refusal.{Refusal}
@@ -25,7 +25,7 @@ pub record Readable (k : Kind) (m : Limits) (s : Sheet) : Type 0 where
   pub chart : s.form ≡ Chart
   pub proper : Proper k s
   pub few_ports : s.ports ≤ m.ports
-  pub numbers_below : All (λ (l : Numbered). l.number < m.numbers) s.legs
+  pub numbers_below : AllByRecursion (λ (l : Numbered). l.number < m.numbers) s.legs
 
 -- every number of a leg line of n places fits its column
 pub record LegFits (n : ℕ) (l : Numbered) : Type 0 where

@@ -9,7 +9,6 @@ ghost use Rattle.sheets.specs.Begun.{tallied, with_leg};
 ghost use Rattle.sheets.specs.Form.{form_letter, leg_letter, end_letter};
 ghost use Rattle.sheet_texts.specs.Faults.{Limits, next_refusal};
 ghost use Rattle.sheet_texts.specs.Lines.{line_leg};
-ghost use Rattle.sheet_reader.specs.declared.reader.Wants.TheVariants.{Head as wantsHead, Legs as wantsLegs, Ended as wantsEnded};
 ghost use Rattle.sheet_reader.specs.Reading.{limits_of, TakesLine};
 
 use super::{Reader, Wants};
@@ -92,7 +91,7 @@ fn has_sums(tally: &Tally, end: EndLine) -> bool
 
 impl Reader {
     fn take_head<K: SheetKind>(&mut self, bounds: Bounds, columns: &[u8]) -> Result<usize, Refusal>
-        requires { self.old.wants ≡ wantsHead }
+        requires { self.old.wants ≡ Wants.Head }
         ensures { TakesLine K.CostKind.kind (limits_of bounds) self.old self.new (form_letter ChartForm ∷ columns.now) result }
     {
         let Some(ports) = read_head(columns, K::place_count()) else {
@@ -110,7 +109,7 @@ impl Reader {
     }
 
     fn take_leg<K: SheetKind>(&mut self, bounds: Bounds, columns: &[u8]) -> Result<usize, Refusal>
-        requires wants { self.old.wants ≡ wantsLegs }
+        requires wants { self.old.wants ≡ Wants.Legs }
         requires numbers { bounds.numbers ≤ most_legs }
         ensures { TakesLine K.CostKind.kind (limits_of bounds) self.old self.new (leg_letter ∷ columns.now) result }
     {
@@ -126,7 +125,7 @@ impl Reader {
     }
 
     fn take_end<K: SheetKind>(&mut self, columns: &[u8]) -> Result<usize, Refusal>
-        requires { self.old.wants ≡ wantsLegs }
+        requires { self.old.wants ≡ Wants.Legs }
         ensures { (m : Limits) → TakesLine K.CostKind.kind m self.old self.new (end_letter ∷ columns.now) result }
     {
         let places = K::place_count();
@@ -142,7 +141,7 @@ impl Reader {
 
     // Whether a whole sheet is read and nothing is left over.
     pub fn is_done(&self, rest: &[u8]) -> bool
-        ensures { Decides result ((self.now.wants ≡ wantsEnded) × (length rest.now ≡ 0)) }
+        ensures { Decides result ((self.now.wants ≡ Wants.Ended) × (length rest.now ≡ 0)) }
     {
         self.wants == Wants::Ended && rest.is_empty()
     }
