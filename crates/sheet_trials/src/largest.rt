@@ -55,9 +55,13 @@ fn back_and_forth(rt: &HostRuntime, even: i64, odd: i64) -> io::Result<()> {
     println!(rt; "  {even} and {odd} dollars: the same legs and bytes come back: {same}")
 }
 
-fn is_blank(bytes: &[u8]) -> bool {
-    for byte in bytes {
-        if *byte != BLANK {
+// Whether zeros stand at the front, and every other byte is still as it was filled.
+fn is_struck(buffer: &[u8]) -> bool {
+    let mut zeros = true;
+    for byte in buffer {
+        if *byte == BLANK {
+            zeros = false;
+        } else if !zeros || *byte != 0 {
             return false;
         }
     }
@@ -73,8 +77,10 @@ fn write_into(rt: &HostRuntime, bytes: usize) -> io::Result<()> {
         Ok(length) => println!(rt; "  into {bytes} bytes: written, {length} bytes"),
         Err(refusal) => {
             let number = refusal.number();
-            let kept = is_blank(out.as_slice());
-            println!(rt; "  into {bytes} bytes: refused, {number}; the buffer is as it was: {kept}")
+            let struck = is_struck(out.as_slice());
+            println!(rt;
+                "  into {bytes} bytes: refused, {number}; what was written is struck: {struck}"
+            )
         }
     }
 }
