@@ -130,7 +130,7 @@ fn ring(alloc: Global) -> Result<Vec<Option<Leg<Money>>>, AllocError> {
     Ok(table)
 }
 
-// From each port a leg on to the next one and a leg back to port 0: the longer a round, the callocer.
+// From each port a leg on to the next one and a leg back to port 0: the longer a round, the cheaper.
 fn nested(alloc: Global) -> Result<Vec<Option<Leg<Money>>>, AllocError> {
     let mut table = Vec::new(alloc);
     for from in 0u16..255 {

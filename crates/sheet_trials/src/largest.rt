@@ -55,9 +55,12 @@ fn back_and_forth(rt: &HostRuntime, even: i64, odd: i64) -> io::Result<()> {
     println!(rt; "  {even} and {odd} dollars: the same legs and bytes come back: {same}")
 }
 
-// Whether zeros stand at the front, and every other byte is still as it was filled.
+// Whether some zeros stand at the front, and every other byte is still as it was filled.
 fn is_struck(buffer: &[u8]) -> bool {
     let mut zeros = true;
+    if buffer.first().copied() != Some(0) {
+        return false;
+    }
     for byte in buffer {
         if *byte == BLANK {
             zeros = false;

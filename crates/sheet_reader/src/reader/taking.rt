@@ -82,11 +82,18 @@ fn count_line<K: SheetKind>(tally: &mut Tally, numbers: usize, line: LegLine)
     );
 }
 
+// Whether two costs are equal, place by place.
+fn is_same_cost(a: Places, b: Places) -> bool
+    ensures { Decides result (row_of a ≡ row_of b) }
+{
+    a == b
+}
+
 // The sums of an end line are those of the lines before it, place by place.
 fn has_sums(tally: &Tally, end: EndLine) -> bool
     ensures { Decides result ((end.legs ≡ tally.now.legs) × (end.hours ≡ tally.now.hours) × (row_of end.cost ≡ row_of tally.now.cost)) }
 {
-    end.legs == tally.legs as u64 && end.hours == tally.hours && end.cost == tally.cost
+    end.legs == tally.legs as u64 && end.hours == tally.hours && is_same_cost(end.cost, tally.cost)
 }
 
 impl Reader {
