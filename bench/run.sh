@@ -26,18 +26,7 @@ g++ -std=c++17 -O3 -march=native -Wall -o "$folder/peers" "$root/bench/peers.cpp
 # A repository of the crates that the search stands on, and of the bench program, which stands outside the tree.
 tree=$folder/bench_tree
 rm -rf "$tree"
-below=$(sed -n 's/^search: *//p' "$root/crates.txt")
-for crate in $below search; do
-    mkdir -p "$tree/crates/$crate"
-    for part in src specs proofs; do
-        if [ -d "$root/crates/$crate/$part" ]; then
-            cp -r "$root/crates/$crate/$part" "$tree/crates/$crate/"
-        fi
-    done
-    grep "^$crate:" "$root/crates.txt" >>"$tree/crates.txt"
-done
-echo "find_bench: $below search anyhow" >>"$tree/crates.txt"
-mkdir -p "$tree/crates/find_bench/src"
+bash "$root/tools/copy_crates.sh" search "$tree" find_bench anyhow
 
 # It is proved over the proved crates, and compiled as a program of the tree is.
 cat >"$tree/crates/find_bench/src/main.rt" <<'END'

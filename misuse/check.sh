@@ -6,18 +6,10 @@ set -u
 root=$(cd "$(dirname "$0")/.." && pwd -P)
 folder=$(mktemp -d)
 trap 'rm -rf "$folder"' EXIT
-below=$(sed -n 's/^sheets: *//p' "$root/crates.txt")
-for crate in $below sheets; do
-    mkdir -p "$folder/crates/$crate"
-    for part in src specs proofs; do
-        if [ -d "$root/crates/$crate/$part" ]; then
-            cp -r "$root/crates/$crate/$part" "$folder/crates/$crate/"
-        fi
-    done
-    grep "^$crate:" "$root/crates.txt" >>"$folder/crates.txt"
-done
-echo "misuse: $below sheets" >>"$folder/crates.txt"
-mkdir -p "$folder/crates/misuse/src"
+if ! bash "$root/tools/copy_crates.sh" sheets "$folder" misuse; then
+    echo "misuse: the crates were not copied"
+    exit 1
+fi
 
 # A program that begins a sheet and puts a leg line, and then does these lines.
 program() {
