@@ -1,7 +1,7 @@
 #!/usr/bin/env bash
 # Times the search for the least round beside two other solvers, on the same charts, and prints a table: see README.md.
 #     bench/run.sh [FOLDER]
-# FOLDER is made where it is missing, and keeps the programs and the charts; without it a folder is made and removed.
+# FOLDER has to be missing or empty, and keeps the programs and the charts; without it a folder is made and removed.
 set -eu
 root=$(cd "$(dirname "$0")/.." && pwd -P)
 if [ $# -gt 0 ]; then
@@ -16,6 +16,10 @@ case $folder/ in "$root"/*)
     exit 2
     ;;
 esac
+if [ -n "$(ls -A "$folder")" ]; then
+    echo "bench: $folder is not empty" >&2
+    exit 2
+fi
 
 if ! printf '#include <boost/graph/%s.hpp>\n' adjacency_list howard_cycle_ratio | g++ -fsyntax-only -x c++ - 2>/dev/null; then
     echo "bench: g++ and Boost's graph headers are needed (on Debian: apt-get install g++ libboost-dev)" >&2
@@ -25,7 +29,6 @@ g++ -std=c++17 -O3 -march=native -Wall -o "$folder/peers" "$root/bench/peers.cpp
 
 # A repository of the crates that the search stands on, and of the bench program, which stands outside the tree.
 tree=$folder/bench_tree
-rm -rf "$tree"
 bash "$root/tools/copy_crates.sh" search "$tree" find_bench anyhow
 
 # It is proved over the proved crates, and compiled as a program of the tree is.
@@ -283,5 +286,9 @@ if ! (cd "$tree/crates/find_bench" && rt run) >"$folder/build.log" 2>&1; then
     exit 1
 fi
 
-"$tree/crates/find_bench/out/find_bench" run >"$folder/found" 2>"$folder/calls"
+if ! "$tree/crates/find_bench/out/find_bench" run >"$folder/found" 2>"$folder/calls"; then
+    tail -5 "$folder/calls" >&2
+    echo "bench: the bench program failed" >&2
+    exit 1
+fi
 "$folder/peers" <"$folder/found"

@@ -4,7 +4,7 @@
 # be proved, so that a refusal of another is the misuse's own.
 set -u
 root=$(cd "$(dirname "$0")/.." && pwd -P)
-folder=$(mktemp -d)
+folder=$(mktemp -d) || exit 1
 trap 'rm -rf "$folder"' EXIT
 if ! bash "$root/tools/copy_crates.sh" sheets "$folder" misuse; then
     echo "misuse: the crates were not copied"
