@@ -1,4 +1,5 @@
 // Money: one place, whole dollars, in the usual order.
+ghost use Rattle.std.specs.Prelude.{refl};
 ghost use Rattle.rows.specs.Orders.{by_dollars};
 ghost use Rattle.rows.specs.Rows.{one_place};
 ghost use Rattle.rows.proofs.Lawful.{by_dollars_laws};
@@ -7,7 +8,7 @@ ghost use Rattle.rows.proofs.Places.{one_place_narrow};
 use crate::kind::CostKind;
 use crate::whole::{multiple_of, negative_of, sum_of};
 
-#[derive(Clone, Copy, PartialEq, Eq, Debug)]
+#[derive(Clone, Copy, PartialEq, Eq, PartialOrd, Ord, Debug)]
 pub struct Money {
     pub dollars: i64,
 }
@@ -15,17 +16,17 @@ pub struct Money {
 impl CostKind for Money {
     const PLACES: usize = 1;
 
+    ghost PLACES = { 1 };
+
     ghost kind = { by_dollars };
 
     ghost row = { λ c. one_place c.dollars };
 
     ghost lawful = { by_dollars_laws };
 
-    ghost narrow = { λ c. one_place_narrow c.dollars };
+    ghost as_many = { refl };
 
-    fn place_count() -> usize {
-        Self::PLACES
-    }
+    ghost narrow = { λ c. one_place_narrow c.dollars };
 
     fn zero() -> Money {
         Money { dollars: 0 }
@@ -50,7 +51,7 @@ impl CostKind for Money {
     }
 
     fn below(self, other: Money) -> bool {
-        self.dollars < other.dollars
+        self < other
     }
 
     fn fits(self, limit: u64) -> bool {

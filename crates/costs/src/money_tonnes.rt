@@ -1,5 +1,5 @@
 // Money, then tonnes of carbon dioxide: two places; the tonnes decide only where the dollars are equal.
-ghost use Rattle.std.specs.Prelude.{◌≡◌, ◌+◌, ◌*◌, ◌≤◌, pos, ◌+ℤ◌, ◌*ℤ◌, neg_ℤ, unsigned_abs};
+ghost use Rattle.std.specs.Prelude.{◌≡◌, ◌+◌, ◌*◌, ◌≤◌, pos, ◌+ℤ◌, ◌*ℤ◌, neg_ℤ, unsigned_abs, refl};
 ghost use Rattle.limits.specs.Numbers.{exact_size};
 ghost use Rattle.rows.specs.Orders.{by_dollars_then_tonnes};
 ghost use Rattle.rows.specs.Rows.{two_places};
@@ -9,7 +9,7 @@ ghost use Rattle.rows.proofs.Places.{two_places_narrow};
 use crate::kind::CostKind;
 use crate::whole::{multiple_of, negative_of, sum_of};
 
-#[derive(Clone, Copy, PartialEq, Eq, Debug)]
+#[derive(Clone, Copy, PartialEq, Eq, PartialOrd, Ord, Debug)]
 pub struct MoneyTonnes {
     pub dollars: i64,
     pub tonnes: i64,
@@ -51,17 +51,17 @@ impl MoneyTonnes {
 impl CostKind for MoneyTonnes {
     const PLACES: usize = 2;
 
+    ghost PLACES = { 2 };
+
     ghost kind = { by_dollars_then_tonnes };
 
     ghost row = { λ c. two_places c.dollars c.tonnes };
 
     ghost lawful = { by_dollars_then_tonnes_laws };
 
-    ghost narrow = { λ c. two_places_narrow c.dollars c.tonnes };
+    ghost as_many = { refl };
 
-    fn place_count() -> usize {
-        Self::PLACES
-    }
+    ghost narrow = { λ c. two_places_narrow c.dollars c.tonnes };
 
     fn zero() -> MoneyTonnes {
         MoneyTonnes {
@@ -83,8 +83,7 @@ impl CostKind for MoneyTonnes {
     }
 
     fn below(self, other: MoneyTonnes) -> bool {
-        self.dollars < other.dollars
-            || (self.dollars == other.dollars && self.tonnes < other.tonnes)
+        self < other
     }
 
     fn fits(self, limit: u64) -> bool {
