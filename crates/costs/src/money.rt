@@ -1,12 +1,14 @@
 // Money: one place, whole dollars, in the usual order.
-ghost use Rattle.std.specs.Prelude.{refl};
+ghost use Rattle.std.specs.Prelude.{Some, refl};
 ghost use Rattle.rows.specs.Orders.{by_dollars};
 ghost use Rattle.rows.specs.Rows.{one_place};
 ghost use Rattle.rows.proofs.Lawful.{by_dollars_laws};
 ghost use Rattle.rows.proofs.Places.{one_place_narrow};
+ghost use Rattle.costs.specs.Texts.{money_text};
 
 use crate::kind::CostKind;
 use crate::whole::{multiple_of, negative_of, sum_of};
+use std::fmt;
 
 #[derive(Clone, Copy, PartialEq, Eq, PartialOrd, Ord, Debug)]
 pub struct Money {
@@ -56,5 +58,13 @@ impl CostKind for Money {
 
     fn fits(self, limit: u64) -> bool {
         self.dollars.unsigned_abs() <= limit
+    }
+}
+
+impl fmt::Display for Money {
+    ghost output = { λ c. Some (money_text c) };
+
+    fn fmt<W: fmt::Write>(&self, f: &mut fmt::Formatter<W>) -> fmt::Result {
+        write!(f, "{} dollars", self.dollars)
     }
 }

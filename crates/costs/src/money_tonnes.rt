@@ -1,13 +1,15 @@
 // Money, then tonnes of carbon dioxide: two places; the tonnes decide only where the dollars are equal.
-ghost use Rattle.std.specs.Prelude.{◌≡◌, ◌+◌, ◌*◌, ◌≤◌, pos, ◌+ℤ◌, ◌*ℤ◌, neg_ℤ, unsigned_abs, refl};
+ghost use Rattle.std.specs.Prelude.{◌≡◌, ◌+◌, ◌*◌, ◌≤◌, pos, ◌+ℤ◌, ◌*ℤ◌, neg_ℤ, unsigned_abs, Some, refl};
 ghost use Rattle.limits.specs.Numbers.{exact_size};
 ghost use Rattle.rows.specs.Orders.{by_dollars_then_tonnes};
 ghost use Rattle.rows.specs.Rows.{two_places};
 ghost use Rattle.rows.proofs.Lawful.{by_dollars_then_tonnes_laws};
 ghost use Rattle.rows.proofs.Places.{two_places_narrow};
+ghost use Rattle.costs.specs.Texts.{money_tonnes_text};
 
 use crate::kind::CostKind;
 use crate::whole::{multiple_of, negative_of, sum_of};
+use std::fmt;
 
 #[derive(Clone, Copy, PartialEq, Eq, PartialOrd, Ord, Debug)]
 pub struct MoneyTonnes {
@@ -88,5 +90,13 @@ impl CostKind for MoneyTonnes {
 
     fn fits(self, limit: u64) -> bool {
         self.dollars.unsigned_abs() <= limit && self.tonnes.unsigned_abs() <= limit
+    }
+}
+
+impl fmt::Display for MoneyTonnes {
+    ghost output = { λ c. Some (money_tonnes_text c) };
+
+    fn fmt<W: fmt::Write>(&self, f: &mut fmt::Formatter<W>) -> fmt::Result {
+        write!(f, "{} dollars and {} tonnes", self.dollars, self.tonnes)
     }
 }
