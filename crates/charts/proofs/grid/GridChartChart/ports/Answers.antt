@@ -6,4 +6,4 @@ use Rattle.charts.proofs.grid.GridChartChart.ports.Goals as goal
 
 pub returns : goal.returns
 returns c = let s = c.args.self.now in
-    record { value = refl; within = grid_within by_dollars (s.last + 1) (one_place s.cost.dollars) s.hours.now (omega arith) (search rules) }
+    record { value = refl; within = grid_within by_dollars s.ports (one_place s.cost.dollars) s.hours.now s.some s.few }

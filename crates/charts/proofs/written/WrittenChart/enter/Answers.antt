@@ -7,8 +7,8 @@ returns g c =
     let k = g.K.CostKind in
     let s = c.args.self.now in
     record {
-      edit = edited k.kind k.row (s.last + 1) _ c.args.n _ s.table.now _ _ (below_first s.table.now c.args.n _) c.enter_at.ensures.answer c.enter_at.ensures.table;
-      shown = λ e. entered_shown k.kind k.row (s.last + 1) c.args.n c.args.leg s.table.now _ e c.enter_at.ensures.table;
+      edit = edited k.kind k.row s.ports _ c.args.n _ s.table.now _ _ (below_first s.table.now c.args.n _) c.enter_at.ensures.answer c.enter_at.ensures.table;
+      shown = λ e. entered_shown k.kind k.row s.ports c.args.n c.args.leg s.table.now _ e c.enter_at.ensures.table;
       ports = refl;
       lender = refl;
     }

@@ -7,7 +7,7 @@ returns g c =
     let k = g.K.CostKind in
     let s = c.args.self.now in
     record {
-      edit = edited k.kind k.row (s.last + 1) _ c.args.n _ s.table.now _ _ (used_first s.table.now c.args.n _) c.withdraw_at.ensures.answer c.withdraw_at.ensures.table;
+      edit = edited k.kind k.row s.ports _ c.args.n _ s.table.now _ _ (used_first s.table.now c.args.n _) c.withdraw_at.ensures.answer c.withdraw_at.ensures.table;
       ports = refl;
       lender = refl;
     }
