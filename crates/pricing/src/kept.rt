@@ -16,7 +16,7 @@ pub struct KeptLeg {
 fn still_joins<C: Chart>(chart: &C, leg: KeptLeg) -> bool
     ensures { result ≡ still_joins (C.Chart.meaning chart.now) (kept_joined leg) }
 {
-    match chart.entry(leg.number as usize) {
+    match chart.entry(usize::from(leg.number)) {
         Entry::Leg(now) => now.from == leg.from && now.to == leg.to,
         _ => false,
     }
@@ -26,10 +26,5 @@ fn still_joins<C: Chart>(chart: &C, leg: KeptLeg) -> bool
 pub fn still_there<C: Chart>(chart: &C, legs: &[KeptLeg]) -> bool
     ensures { result ≡ all_still_there (C.Chart.meaning chart.now) (map kept_joined legs.now) }
 {
-    for leg in legs {
-        if !still_joins(chart, *leg) {
-            return false;
-        }
-    }
-    true
+    legs.iter().all(|leg| still_joins(chart, *leg))
 }
