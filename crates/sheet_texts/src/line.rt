@@ -7,7 +7,7 @@ ghost use Rattle.sheets.specs.Form.{line_feed, Numbered};
 ghost use Rattle.sheet_texts.specs.Columns.{ShowsPlaces, HeadColumns, LegColumns, EndColumns};
 ghost use Rattle.sheet_texts.specs.Lines.{line_leg, Replaced, ReadPlaces};
 
-use columns::{read_signed, read_unsigned};
+use columns::read_number;
 use sheets::Places;
 use sheets::form::{COST_WIDTH, HOURS_WIDTH, NUMBER_WIDTH, SUMMED_COST_WIDTH, SUMMED_HOURS_WIDTH};
 
@@ -83,7 +83,7 @@ fn read_places(columns: &[u8], at: usize, width: usize, count: usize) -> Option<
     let mut places = Places::ZERO;
     let mut next = at;
     for i in 0..count {
-        let (z, after) = read_signed(columns, next, width)?;
+        let (z, after) = read_number(columns, next, width)?;
         places = with_place(places, i, z);
         next = after;
     }
@@ -94,8 +94,8 @@ fn read_places(columns: &[u8], at: usize, width: usize, count: usize) -> Option<
 pub fn read_head(columns: &[u8], places: usize) -> Option<u64>
     ensures { MatchOption result ((p : ℕ) → HeadColumns places columns.now p → ⊥) (λ p. HeadColumns places columns.now p) }
 {
-    let (ports, at) = read_unsigned(columns, 0, NUMBER_WIDTH)?;
-    let (shown, at) = read_unsigned(columns, at, NUMBER_WIDTH)?;
+    let (ports, at) = read_number(columns, 0, NUMBER_WIDTH)?;
+    let (shown, at) = read_number::<u64>(columns, at, NUMBER_WIDTH)?;
     if shown == places as u64 && ends_line(columns, at) {
         Some(ports)
     } else {
@@ -108,10 +108,10 @@ pub fn read_leg(columns: &[u8], places: usize) -> Option<LegLine>
     requires { places ≤ most_places }
     ensures { MatchOption result ((l : Numbered) → LegColumns places columns.now l → ⊥) (λ l. LegColumns places columns.now (line_leg l) × Narrow places (row_of l.cost)) }
 {
-    let (number, at) = read_unsigned(columns, 0, NUMBER_WIDTH)?;
-    let (from, at) = read_unsigned(columns, at, NUMBER_WIDTH)?;
-    let (to, at) = read_unsigned(columns, at, NUMBER_WIDTH)?;
-    let (hours, at) = read_unsigned(columns, at, HOURS_WIDTH)?;
+    let (number, at) = read_number(columns, 0, NUMBER_WIDTH)?;
+    let (from, at) = read_number(columns, at, NUMBER_WIDTH)?;
+    let (to, at) = read_number(columns, at, NUMBER_WIDTH)?;
+    let (hours, at) = read_number(columns, at, HOURS_WIDTH)?;
     let (cost, at) = read_places(columns, at, COST_WIDTH, places)?;
     if ends_line(columns, at) {
         Some(LegLine {
@@ -131,8 +131,8 @@ pub fn read_end(columns: &[u8], places: usize) -> Option<EndLine>
     requires { places ≤ most_places }
     ensures { MatchOption result ((legs hours : ℕ) (c : Row) → EndColumns places columns.now legs hours c → ⊥) (λ e. EndColumns places columns.now e.legs e.hours (row_of e.cost) × Narrow places (row_of e.cost)) }
 {
-    let (legs, at) = read_unsigned(columns, 0, NUMBER_WIDTH)?;
-    let (hours, at) = read_unsigned(columns, at, SUMMED_HOURS_WIDTH)?;
+    let (legs, at) = read_number(columns, 0, NUMBER_WIDTH)?;
+    let (hours, at) = read_number(columns, at, SUMMED_HOURS_WIDTH)?;
     let (cost, at) = read_places(columns, at, SUMMED_COST_WIDTH, places)?;
     if ends_line(columns, at) {
         Some(EndLine { legs, hours, cost })

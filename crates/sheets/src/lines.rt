@@ -11,7 +11,7 @@ use crate::form::{
 };
 use crate::places::Places;
 use charts::Leg;
-use columns::{put_signed, put_unsigned};
+use columns::put_number;
 
 const LEG_LETTER: u8 = b'L';
 
@@ -38,7 +38,7 @@ fn put_places(out: &mut [u8], at: usize, width: usize, places: Places, count: us
 {
     let mut next = at;
     for i in 0..count {
-        next = put_signed(out, next, width, places.place(i));
+        next = put_number(out, next, width, places.place(i));
     }
     next
 }
@@ -51,8 +51,8 @@ pub fn put_head(out: &mut [u8], form: Form, ports: usize, places: usize) -> usiz
     ensures next { result ≡ head_length }
 {
     let at = put_byte(out, 0, form.letter());
-    let at = put_unsigned(out, at, NUMBER_WIDTH, ports as u64);
-    let at = put_unsigned(out, at, NUMBER_WIDTH, places as u64);
+    let at = put_number(out, at, NUMBER_WIDTH, ports as u64);
+    let at = put_number(out, at, NUMBER_WIDTH, places as u64);
     put_byte(out, at, LINE_FEED)
 }
 
@@ -64,10 +64,10 @@ pub fn put_leg(out: &mut [u8], at: usize, number: usize, leg: Leg<Places>, place
     ensures next { result ≡ at + leg_length places }
 {
     let at = put_byte(out, at, LEG_LETTER);
-    let at = put_unsigned(out, at, NUMBER_WIDTH, number as u64);
-    let at = put_unsigned(out, at, NUMBER_WIDTH, leg.from as u64);
-    let at = put_unsigned(out, at, NUMBER_WIDTH, leg.to as u64);
-    let at = put_unsigned(out, at, HOURS_WIDTH, leg.hours as u64);
+    let at = put_number(out, at, NUMBER_WIDTH, number as u64);
+    let at = put_number(out, at, NUMBER_WIDTH, leg.from as u64);
+    let at = put_number(out, at, NUMBER_WIDTH, leg.to as u64);
+    let at = put_number(out, at, HOURS_WIDTH, leg.hours as u64);
     let at = put_places(out, at, COST_WIDTH, leg.cost, places);
     put_byte(out, at, LINE_FEED)
 }
@@ -87,8 +87,8 @@ pub fn put_end(
     ensures next { result ≡ at + end_length places }
 {
     let at = put_byte(out, at, END_LETTER);
-    let at = put_unsigned(out, at, NUMBER_WIDTH, legs as u64);
-    let at = put_unsigned(out, at, SUMMED_HOURS_WIDTH, hours);
+    let at = put_number(out, at, NUMBER_WIDTH, legs as u64);
+    let at = put_number(out, at, SUMMED_HOURS_WIDTH, hours);
     let at = put_places(out, at, SUMMED_COST_WIDTH, cost, places);
     put_byte(out, at, LINE_FEED)
 }

@@ -9,7 +9,7 @@ unfolding head_line
 returns c =
     let h : 0 ≤ length c.args.out.now = omega arith in
     let a = wrote_first _ (c.put_byte-at.ensures.wrote ∙ ap (λ b. put c.args.out.now 0 (b ∷ [])) c.letter.ensures) c.put_byte-at.ensures.next in
-    let b = wrote_unsigned number_width c.args.ports (omega arith) (omega arith) h a c.put_unsigned-at.ensures.wrote c.put_unsigned-at.ensures.next in
-    let d = wrote_unsigned number_width c.args.places (omega arith) (omega arith) h b c.put_unsigned-at-2.ensures.wrote c.put_unsigned-at-2.ensures.next in
+    let b = wrote_unsigned number_width c.args.ports (omega arith) (omega arith) h a c.put_number-at.ensures.wrote c.put_number-at.ensures.next in
+    let d = wrote_unsigned number_width c.args.places (omega arith) (omega arith) h b c.put_number-at-2.ensures.wrote c.put_number-at-2.ensures.next in
     let e = wrote_more _ 1 refl h d c.put_byte.ensures.wrote c.put_byte.ensures.next in
     record { wrote = e.bytes; next = omega arith }

@@ -12,8 +12,8 @@ pub loop-i-init : goal.loop-i-init
 unfolding place_columns
 loop-i-init c = (wrote_none c.args.out.now c.args.at, omega (arith, mul-zero c.args.width))
 
-pub put_signed-next-requires : goal.put_signed-next-requires
-put_signed-next-requires c =
+pub put_number-next-requires : goal.put_number-next-requires
+put_number-next-requires c =
     let fit : SFits w64 c.place.result = search rules in
     let back : to_z w64 (of_z w64 c.place.result) ≡ place (row_of c.args.places) c.loop-i.i = to_z-of_z w64 c.place.result fit ∙ c.place.ensures in
     record {
@@ -26,8 +26,8 @@ loop-i-preserved c =
     let fit : SFits w64 c.place.result = search rules in
     let back : to_z w64 (of_z w64 c.place.result) ≡ place (row_of c.args.places) c.loop-i.i = to_z-of_z w64 c.place.result fit ∙ c.place.ensures in (
       wrote_place c.args.width c.loop-i.i (row_of c.args.places) c.requires.fits.0 c.requires.fits.1 (omega arith) c.loop-i.invariant.0
-          (c.put_signed-next.ensures.wrote ∙ ap (λ (z : ℤ). put c.loop-i.out c.loop-i.next (column c.args.width z)) back) c.put_signed-next.ensures.next,
-      omega (arith, mul-add c.args.width c.loop-i.i 1, mul-one c.args.width, c.loop-i.invariant.1, c.put_signed-next.ensures.next),
+          (c.put_number-next.ensures.wrote ∙ ap (λ (z : ℤ). put c.loop-i.out c.loop-i.next (column c.args.width z)) back) c.put_number-next.ensures.next,
+      omega (arith, mul-add c.args.width c.loop-i.i 1, mul-one c.args.width, c.loop-i.invariant.1, c.put_number-next.ensures.next),
     )
 
 pub returns : goal.returns
