@@ -1,9 +1,8 @@
 -- The shortest decimal: its last digit, its length, its bytes, and that it is of one number. Assumes nothing.
 use Rattle.std.proofs.Common.{◌≡◌, ℕ, zero, suc, ◌+◌, ◌-◌, ◌*◌, ◌/◌, ◌%◌, ◌^◌, ◌<◌, ◌≤◌, List, [], ◌∷◌, ◌++◌, map, length, get_or, drop, ℤ, pos, negsuc, sym, refl, ap, ◌∙◌, arith}
-use native.Mathlib.Nat.{pow-le-pow_right}
 use Rattle.std.specs.Int.{IsInRange}
 use Rattle.std.specs.Int.Digits.{digits_of}
-use Rattle.std.proofs.lemmas.Int.Digits.{digits_of_step, length-digits_of_step, length-digits_of-le, all_below_base_digits_of, first_digits_of, number_lt, number_digits_of, same_from_digits_of}
+use Rattle.std.proofs.lemmas.Int.Digits.{digits_of_step, length-digits_of_step, length-digits_of-le, all_below_base_digits_of, first_digits_of, same_from_digits_of}
 use Rattle.std.proofs.lemmas.List.{map_push, length-map, length-append, get_or-map}
 use Rattle.std.proofs.ByRecursion.{All-get_or}
 use Rattle.columns.specs.Numerals.{digit_bytes, numeral, signed_numeral}

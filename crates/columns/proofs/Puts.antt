@@ -1,8 +1,7 @@
 -- Bytes put after those that were put already. Assumes nothing.
-use Rattle.std.proofs.Common.{◌≡◌, ℕ, ◌+◌, ◌-◌, ◌<◌, ◌≤◌, List, [], ◌∷◌, ◌++◌, length, take, drop, set, replicate, sym, ap, ◌∙◌, add-one, arith}
+use Rattle.std.proofs.Common.{◌≡◌, ℕ, ◌+◌, ◌<◌, ◌≤◌, List, [], ◌∷◌, ◌++◌, length, take, drop, set, sym, ap, ◌∙◌, add-one, arith}
 use borrow.Rule.Slice.PartMut.{put_mid}
-use Rattle.std.proofs.lemmas.List.{append_assoc, set_split, length-append, length-replicate, length-take-le, length-drop, drop-drop, take_at, drop_at, take-append-le, take-take, take-append-drop}
-use Rattle.columns.specs.Columns.{padded}
+use Rattle.std.proofs.lemmas.List.{append_assoc, set_split, length-append, length-take-le, length-drop, drop-drop, take_at, drop_at}
 use Rattle.columns.specs.Put.{put}
 
 pub put_one : (d : List ℕ) (at b : ℕ) → at < length d → set d at b ≡ put d at (b ∷ [])
