@@ -1,10 +1,12 @@
-// The worked example: its figures, as facts of the definitions, and its legs. The chart and the statement stand in specs/.
+// The worked example: its legs as code, how its chart is told, and its figures as facts of the definitions, which stand in specs/.
 #![tactic(auto)]
 
 pub mod legs;
+pub mod listing;
 
 ghost use Rattle.triangle_facts.specs.Figures.{TriangleFigures};
 
+pub use listing::Listing;
 pub use legs::{LONG_ROUND, SHORT_ROUND, legs_at, rounds_agree, triangle_at, triangle_with_tonnes};
 
 // What the triangle and the charts made from it come to.
