@@ -1,8 +1,11 @@
 // The legs and the rounds of the worked example, as code.
-ghost use Rattle.std.specs.Prelude.{◌≡◌, map, [], ◌∷◌};
+ghost use Rattle.std.specs.Prelude.{◌≡◌, map, [], ◌∷◌, Some, None};
 ghost use Rattle.rows.specs.Rows.{one_place, two_places};
 ghost use Rattle.charts.specs.Meaning.{leg};
+ghost use Rattle.rows.specs.Orders.{by_dollars, by_dollars_then_tonnes};
 ghost use Rattle.charts.specs.Reading.{figures_of};
+ghost use Rattle.charts.specs.Limits.{cost_refusal};
+ghost use Rattle.charts.specs.Written.{written};
 ghost use Rattle.triangle_facts.specs.Triangle.{three_ports, short_round, long_round};
 ghost use Rattle.triangle_facts.specs.Triangle.{triangle_at as chart_at};
 ghost use Rattle.triangle_facts.specs.Triangle.{triangle_with_tonnes as chart_with_tonnes};
@@ -57,7 +60,8 @@ pub fn legs_at<K: CostKind>(costs: [K; 4]) -> [Leg<K>; 4]
 
 // The triangle with leg 1 at so many dollars.
 pub fn triangle_at(leg_1: i64) -> [Leg<Money>; 4]
-    ensures { map (λ l. leg (figures_of (λ c. one_place c.dollars) l)) result ≡ (chart_at (one_place leg_1)).entries }
+    ensures legs { map (λ l. leg (figures_of (λ c. one_place c.dollars) l)) result ≡ (chart_at (one_place leg_1)).entries }
+    ensures chart { cost_refusal by_dollars (one_place leg_1) ≡ None → written by_dollars (λ c. one_place c.dollars) 3 (map Some result) ≡ chart_at (one_place leg_1) }
 {
     legs_at([
         Money { dollars: -1_200 },
@@ -69,7 +73,8 @@ pub fn triangle_at(leg_1: i64) -> [Leg<Money>; 4]
 
 // The triangle with leg 1 at 0 dollars, and the tonnes that each leg burns.
 pub fn triangle_with_tonnes() -> [Leg<MoneyTonnes>; 4]
-    ensures { map (λ l. leg (figures_of (λ c. two_places c.dollars c.tonnes) l)) result ≡ chart_with_tonnes.entries }
+    ensures legs { map (λ l. leg (figures_of (λ c. two_places c.dollars c.tonnes) l)) result ≡ chart_with_tonnes.entries }
+    ensures chart { written by_dollars_then_tonnes (λ c. two_places c.dollars c.tonnes) 3 (map Some result) ≡ chart_with_tonnes }
 {
     legs_at([
         MoneyTonnes {
