@@ -1,7 +1,8 @@
 -- Rows read and written at the places of a list. Assumes nothing.
-use Rattle.std.proofs.Common.{◌≡◌, ℕ, ◌<◌, ◌≢◌, List, [], ◌∷◌, map, length, get_or, set, sym, ap, ◌∙◌, arith}
+use Rattle.std.proofs.Common.{◌≡◌, ℕ, zero, suc, ◌<◌, ◌≢◌, List, [], ◌∷◌, map, length, get_or, set, sym, ap, ◌∙◌, subst, arith}
 use lib.ListN.{length-map}
 use Rattle.std.proofs.lemmas.List.{get_or-map, get_or-set_same, get_or-set_other, map-set}
+use Rattle.std.specs.List.{FoldsTo}
 use Rattle.rows.specs.Rows.{Row, zero_row}
 use Rattle.search.specs.Layer.{row_at}
 
@@ -28,3 +29,11 @@ unfolding row_at
 row_moved row xs ys i j h l e =
     let d = some_element xs i h in
     get_or-map row xs i d zero_row h ∙ ap row (e d) ∙ sym (get_or-map row ys j d zero_row l)
+
+-- each call of the closure gives x and leaves it as it was
+pub row_filled : {K F : Type 0} (row : K → Row) (R : F → K → F → Type 0) (f last : F) (x : K) → ((y : K) (q : F) → R f y q → (y ≡ x) × (q ≡ f)) → (xs : List K) → FoldsTo R f xs last
+    → (i : ℕ) → i < length xs → row_at row xs i ≡ row x
+unfolding row_at
+row_filled row R f last x same [] o i h = absurd (omega arith)
+row_filled row R f last x same (y ∷ xs) o zero h = ap row (same y o.0 o.1).0
+row_filled {K} {F} row R f last x same (y ∷ xs) o (suc i) h = row_filled row R f last x same xs (subst (λ (q : F). FoldsTo R q xs last) (same y o.0 o.1).1 o.2) i (omega arith)

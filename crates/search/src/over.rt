@@ -20,10 +20,5 @@ pub fn has_over<C: Chart>(chart: &C) -> bool
     ensures some { result ≡ true → SomeOver (C.Chart.meaning chart.now) }
     ensures none { result ≡ false → SomeOver (C.Chart.meaning chart.now) → ⊥ }
 {
-    for n in 0..chart.count() {
-        if is_over(chart, n) {
-            return true;
-        }
-    }
-    false
+    (0..chart.count()).any(|n| is_over(chart, n))
 }

@@ -55,8 +55,8 @@ fn lowest_place(numbers: &[u16]) -> usize
     ensures lowest { (i : ℕ) → i < length numbers.now → slice_index numbers.now result ≤ slice_index numbers.now i }
 {
     let mut lowest = 0;
-    for i in 0..numbers.len() {
-        if numbers[i] < numbers[lowest] {
+    for (i, n) in numbers.iter().enumerate() {
+        if *n < numbers[lowest] {
             lowest = i;
         }
     }

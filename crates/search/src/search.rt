@@ -14,9 +14,8 @@ use costs::{CostKind, Rate};
 pub fn zero_costs<K: CostKind>(costs: &mut [K])
     ensures { (i : ℕ) → i < length costs.old → row_at K.CostKind.row costs.new i ≡ zero_row }
 {
-    for i in 0..costs.len() {
-        costs[i] = K::zero();
-    }
+    let zero = K::zero();
+    costs.fill_with(|| zero);
 }
 
 // One layer more, its predecessors in the row of that number; and whether it made some port lower.
