@@ -9,3 +9,4 @@ pub mod Parts
 pub mod Improving
 pub mod BareCharts
 pub mod Picking
+pub mod Looking

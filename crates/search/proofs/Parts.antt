@@ -1,5 +1,5 @@
 -- A part of a list written anew, and a row of a table. Assumes nothing.
-use Rattle.std.proofs.Common.{◌≡◌, ℕ, ◌+◌, ◌-◌, ◌*◌, ◌<◌, ◌≤◌, List, ◌++◌, map, length, get_or, take, drop, sym, ap, ◌∙◌, subst, mul-le-mul_right, suc-mul, add-one, arith}
+use Rattle.std.proofs.Common.{◌≡◌, ℕ, ◌+◌, ◌-◌, ◌*◌, ◌<◌, ◌≤◌, List, ◌++◌, map, length, get_or, take, drop, Some, None, Option, sym, ap, ◌∙◌, subst, mul-le-mul_right, suc-mul, add-one, arith}
 use mathlib.Core.List.{map-append}
 use lib.ListN.{length-map}
 use borrow.Rule.Slice.PartMut.{put_mid, post_of}
@@ -10,7 +10,9 @@ use Rattle.costs.specs.declared.rate.Rate.{Rate}
 use Rattle.charts.specs.Meaning.{Meaning}
 use Rattle.rounds.specs.Marks.{Mark}
 use Rattle.search.specs.Layer.{row_at}
-use Rattle.search.specs.Search.{Least}
+use Rattle.search.specs.declared.round.Held.{Held}
+use Rattle.search.specs.Search.{Least, Searched}
+use Rattle.search.specs.Improve.{Improvement}
 
 -- row i of a table of p columns and p rows
 pub row_ends : (i p q len : ℕ) → p ≡ q → i < p → len ≡ q * q → ((i + 1) * p ≤ len) × ((i + 1) * p - i * p ≡ p)
@@ -63,3 +65,13 @@ least_front k row m rate xs ys h l = record {
   best = l.best;
   marks = λ v b. subst (Mark k m (row rate.cost) rate.hours v) (sym (row_front row xs ys v (omega arith))) (l.marks v b);
 }
+
+pub searched_front : {K : Type 0} (k : Kind) (row : K → Row) (m : Meaning) (rate : Rate K) (xs ys : List K) (was buffer : List ℕ) → m.ports ≤ length xs → (r : Option (Held K))
+    → Searched k row m rate xs was buffer r → Searched k row m rate (xs ++ ys) was buffer r
+searched_front k row m rate xs ys was buffer h (Some held) s = s
+searched_front k row m rate xs ys was buffer h None s = (s.0, least_front k row m rate xs ys h s.1)
+
+pub improved_front : {K : Type 0} (k : Kind) (row : K → Row) (m : Meaning) (was : Held K) (old : List ℕ) (xs ys : List K) (buffer : List ℕ) → m.ports ≤ length xs → (r : Option (Held K))
+    → Improvement k row m was old xs buffer r → Improvement k row m was old (xs ++ ys) buffer r
+improved_front k row m was old xs ys buffer h (Some new) o = record { holds = o.holds; cheaper_than = o.cheaper_than; least = least_front k row m new.rate xs ys h o.least }
+improved_front k row m was old xs ys buffer h None o = record { unchanged = o.unchanged; holds = o.holds; least = least_front k row m was.rate xs ys h o.least }

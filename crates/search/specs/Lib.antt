@@ -1,5 +1,6 @@
 pub mod Layer
 pub mod Offer
+pub mod Predecessors
 pub mod Back
 pub mod Round
 pub mod Look

@@ -8,7 +8,7 @@ use Rattle.rounds.specs.Walks.{Walk}
 use Rattle.rounds.specs.WalksBack.{port_back, legs_back}
 use Rattle.pricing.specs.Totals.{Totals}
 use Rattle.search.specs.declared.back.Repeat.{Repeat}
-use Rattle.search.specs.Back.{pred_at}
+use Rattle.search.specs.Predecessors.{pred_at}
 
 -- every leg of a repeat stands in the table, and is there
 pub record Traced (k : Kind) (m : Meaning) (width : ℕ) (table : List ℕ) (r : Repeat) : Type 0 where

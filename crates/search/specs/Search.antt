@@ -12,27 +12,36 @@ use Rattle.rounds.specs.WalksBack.{LoweredIn}
 use Rattle.pricing.specs.Totals.{Totals}
 use Rattle.search.specs.declared.round.Held.{Held}
 use Rattle.search.specs.Layer.{row_at, weights, Copied}
-use Rattle.search.specs.Back.{pred_at}
+use Rattle.search.specs.Area.{number_places}
+use Rattle.search.specs.Predecessors.{pred_at}
 
--- the work area, cut into parts: two layers of costs, a row for the ports seen, the table of predecessors, and a buffer for a round
-pub record Area {K : Type 0} (ports : ℕ) (costs : List K) (seen table round : List ℕ) : Type 0 where
+-- the part of the work area that a search uses: two layers of costs, the numbers, and a buffer for a round
+pub record Area {K : Type 0} (ports : ℕ) (costs : List K) (numbers round : List ℕ) : Type 0 where
   pub two_layers : length costs ≡ ports + ports
+  pub rows : length numbers ≡ number_places ports
+  pub places : ports ≤ length round
+
+-- cut into parts: two layers of costs, a row for the ports seen, the table of predecessors, and the buffer
+pub record Parts {K : Type 0} (ports : ℕ) (costs next : List K) (seen table round : List ℕ) : Type 0 where
+  pub one_layer : length costs ≡ ports
+  pub next_layer : length next ≡ ports
   pub one_row : length seen ≡ ports
   pub rows : length table ≡ ports * ports
   pub places : ports ≤ length round
 
--- the first layer of costs is layer top, the one behind a copy of it, and the table has the predecessors of layers 1 to top
-pub record Climbed {K : Type 0} (k : Kind) (row : K → Row) (m : Meaning) (rate : Rate K) (ports : ℕ) (table : List ℕ) (costs : List K) (top : ℕ) : Type 0 where
-  pub layers : Layers k m (weights row m rate) (pred_at ports table) top
+-- the costs are layer top, next a copy of it, and the table has the predecessors of layers 1 to top
+pub record Climbed {K : Type 0} (k : Kind) (row : K → Row) (m : Meaning) (rate : Rate K) (table : List ℕ) (costs next : List K) (top : ℕ) : Type 0 where
+  pub layers : Layers k m (weights row m rate) (pred_at m.ports table) top
   pub reached : (v : ℕ) → v < m.ports → layers.row top v ≡ row_at row costs v
-  pub copied : Copied row m.ports costs
-  pub two_layers : length costs ≡ m.ports + m.ports
+  pub copied : Copied row m.ports costs next
+  pub one_layer : length costs ≡ m.ports
+  pub next_layer : length next ≡ m.ports
   pub rows : length table ≡ m.ports * m.ports
   pub few : top ≤ m.ports
 
 -- layer top made some port lower
-abbrev pub SomeLowered : Meaning → ℕ → List ℕ → ℕ → Type 0
-SomeLowered m ports table top = (v : ℕ) × LoweredIn m (pred_at ports table) top v
+abbrev pub SomeLowered : Meaning → List ℕ → ℕ → Type 0
+SomeLowered m table top = (v : ℕ) × LoweredIn m (pred_at m.ports table) top v
 
 -- no closed walk is cheaper, and the costs front holds the marks
 pub record Least {K : Type 0} (k : Kind) (row : K → Row) (m : Meaning) (rate : Rate K) (costs : List K) : Type 0 where

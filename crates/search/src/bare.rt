@@ -1,9 +1,7 @@
 // Some round of a chart, and some idle one: a cheaper round asked for on a chart bare of hours and costs, where every closed walk is cheaper than nothing in one hour.
 ghost use Rattle.std.specs.Prelude.{◌≡◌, ◌+◌, ◌≤◌, false, ◌&&◌, length, nat_lt};
-ghost use Rattle.charts.specs.Meaning.{Within};
 ghost use Rattle.rounds.specs.Bare.{less_one};
 ghost use Rattle.rounds.specs.Bare.{bare as bare_meaning};
-ghost use Rattle.search.specs.Search.{Area};
 ghost use Rattle.search.specs.Area.{number_places, RestStays};
 ghost use Rattle.search.specs.Bare.{BareFound, SomeRound, TellsIdle};
 
@@ -58,48 +56,6 @@ impl<'a, C: Chart> Chart for Bare<'a, C> {
     }
 }
 
-fn search_bare<C: Chart>(
-    chart: &C,
-    ports: usize,
-    idle: bool,
-    costs: &mut [Money],
-    seen: &mut [u32],
-    table: &mut [u32],
-    round: &mut [u16],
-) -> Option<usize>
-    requires within { Within C.Cost.CostKind.kind (C.Chart.meaning chart.now) }
-    requires ports { ports ≡ (C.Chart.meaning chart.now).ports }
-    requires area { Area ports costs.old seen.old table.old round.old }
-    ensures { BareFound (C.Chart.meaning chart.now) idle round.new result }
-{
-    let bare = Bare { chart, idle };
-    let nothing = Rate {
-        cost: Money { dollars: 0 },
-        hours: 1,
-    };
-    match find_cheaper(&bare, ports, nothing, costs, seen, table, round) {
-        None => None,
-        Some(held) => Some(held.legs),
-    }
-}
-
-fn search_bare_cut<C: Chart>(
-    chart: &C,
-    ports: usize,
-    idle: bool,
-    costs: &mut [Money],
-    numbers: &mut [u32],
-    round: &mut [u16],
-) -> Option<usize>
-    requires within { Within C.Cost.CostKind.kind (C.Chart.meaning chart.now) }
-    requires ports { ports ≡ (C.Chart.meaning chart.now).ports }
-    requires places { (length costs.old ≡ ports + ports) × (length numbers.old ≡ number_places ports) × (ports ≤ length round.old) }
-    ensures { BareFound (C.Chart.meaning chart.now) idle round.new result }
-{
-    let (seen, table) = numbers.split_at_mut(ports);
-    search_bare(chart, ports, idle, costs, seen, table, round)
-}
-
 // The layers are of money, whatever the chart's kind, so they stand in an array here and not in the lent area.
 fn find_bare<C: Chart>(
     chart: &C,
@@ -113,15 +69,20 @@ fn find_bare<C: Chart>(
     ensures numbers { RestStays (number_places (C.Chart.meaning chart.now).ports) numbers.old numbers.new }
 {
     let ports = chart.ports();
+    let bare = Bare { chart, idle };
+    let nothing = Rate {
+        cost: Money { dollars: 0 },
+        hours: 1,
+    };
     let mut costs = [Money { dollars: 0 }; 512];
-    search_bare_cut(
-        chart,
-        ports,
-        idle,
+    let held = find_cheaper(
+        &bare,
+        nothing,
         &mut costs[0..2 * ports],
         &mut numbers[0..(ports + 1) * ports],
         round,
-    )
+    )?;
+    Some(held.legs)
 }
 
 // Some round, its legs in front of the buffer; or the chart has none.
@@ -141,8 +102,5 @@ pub fn has_idle_round<C: Chart>(chart: &C, numbers: &mut [u32], round: &mut [u16
     ensures idle { TellsIdle (C.Chart.meaning chart.now) result }
     ensures numbers { RestStays (number_places (C.Chart.meaning chart.now).ports) numbers.old numbers.new }
 {
-    match find_bare(chart, true, numbers, round) {
-        None => false,
-        Some(_) => true,
-    }
+    find_bare(chart, true, numbers, round).is_some()
 }

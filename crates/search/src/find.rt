@@ -40,7 +40,8 @@ pub fn find_least<C: Chart>(
         None => Err(Refusal::NoRound),
         Some(legs) => {
             let rate = total(chart, &round[0..legs]);
-            Ok(least_round(chart, Held { legs, rate }, costs, numbers, round).held)
+            let first = Held { legs, rate };
+            Ok(least_round(chart, first, costs, numbers, round).unwrap_or(first))
         }
     }
 }

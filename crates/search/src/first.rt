@@ -4,13 +4,12 @@ ghost use Rattle.std.specs.Prelude.{◌≡◌, ◌+◌, ◌<◌, ◌≤◌, leng
 ghost use Rattle.charts.specs.Meaning.{Within};
 ghost use Rattle.search.specs.Area.{number_places, RestStays};
 ghost use Rattle.search.specs.Bare.{SomeRound};
-ghost use Rattle.search.specs.First.{Picked, Pickable, CycleIf, FoundCycle, RoundIf};
+ghost use Rattle.search.specs.First.{Picked, RoundIf};
+ghost use Rattle.search.specs.Look.{KnownIf};
 
-use crate::back::{Repeat, left_port, repeat_between};
 use crate::bare::any_round;
-use crate::layer::predecessor;
 use crate::look::{Found, cheaper_of};
-use crate::round::{sum_back, write_round};
+use crate::predecessors::{Predecessors, predecessor};
 use charts::{Chart, Entry, Leg};
 use costs::{CostKind, Rate};
 use limits::MOST_PORTS;
@@ -57,58 +56,6 @@ fn pick_legs<C: Chart>(chart: &C, picks: &mut [u32])
     }
 }
 
-// Walks back along picks until a port comes again, or has none.
-fn walk_picks<C: Chart>(
-    chart: &C,
-    ports: usize,
-    picks: &[u32],
-    port: usize,
-    seen: &mut [u32],
-) -> Option<Repeat>
-    requires picks { Pickable C.Cost.CostKind.kind (C.Chart.meaning chart.now) ports picks.now }
-    requires place { (port < ports) × (length seen.old ≡ ports) }
-    ensures { CycleIf C.Cost.CostKind.kind (C.Chart.meaning chart.now) picks.now result }
-{
-    seen.fill(0);
-    let mut at = port;
-    for c in 0..ports {
-        let pick = picks[at] as usize;
-        if pick == 0 {
-            return None;
-        }
-        seen[at] = (ports - c) as u32;
-        at = left_port(chart, pick - 1);
-        let met = seen[at] as usize;
-        if met > 0 {
-            return Some(repeat_between(met, ports - c - 1, at));
-        }
-    }
-    None
-}
-
-// Walks back from one port more.
-fn cycle_from<C: Chart>(
-    chart: &C,
-    ports: usize,
-    picks: &[u32],
-    port: usize,
-    seen: &mut [u32],
-    best: Option<Found<C::Cost>>,
-) -> Option<Found<C::Cost>>
-    requires picks { Pickable C.Cost.CostKind.kind (C.Chart.meaning chart.now) ports picks.now }
-    requires place { (port < ports) × (length seen.old ≡ ports) }
-    requires best { FoundCycle C.Cost.CostKind.kind (C.Chart.meaning chart.now) picks.now best }
-    ensures { FoundCycle C.Cost.CostKind.kind (C.Chart.meaning chart.now) picks.now result }
-{
-    match walk_picks(chart, ports, picks, port, seen) {
-        None => best,
-        Some(repeat) => {
-            let rate = sum_back(chart, 0, picks, repeat);
-            Some(cheaper_of(best, Found { repeat, rate }))
-        }
-    }
-}
-
 // Marks the ports that a walk came through.
 fn mark_seen(seen: &[u32], done: &mut [bool]) {
     for (mark, met) in done.iter_mut().zip(seen) {
@@ -118,51 +65,27 @@ fn mark_seen(seen: &[u32], done: &mut [bool]) {
     }
 }
 
-// The cheapest cycle of picks. A walk from a port that another came through finds no other cycle, so there is none.
-fn cheapest_cycle<C: Chart>(
-    chart: &C,
-    ports: usize,
-    picks: &[u32],
-    seen: &mut [u32],
-    done: &mut [bool],
-) -> Option<Found<C::Cost>>
-    requires picks { Pickable C.Cost.CostKind.kind (C.Chart.meaning chart.now) ports picks.now }
-    requires places { (length seen.old ≡ ports) × (ports ≤ length done.old) }
-    ensures { FoundCycle C.Cost.CostKind.kind (C.Chart.meaning chart.now) picks.now result }
+// The cheapest cycle of picks. Unlike in `cheapest_repeat`, a walk from a port that another came through finds no other
+// cycle, so there is none: without the marks a ring takes a hundred times as long.
+fn cheapest_cycle<C: Chart>(picks: &Predecessors<'_, C>, seen: &mut [u32]) -> Option<Found<C::Cost>>
+    requires some { 0 < picks.now.layers }
+    requires seen { length seen.old ≡ (C.Chart.meaning picks.now.chart.now).ports }
+    ensures { KnownIf C.Cost.CostKind.row (C.Chart.meaning picks.now.chart.now) picks.now.width picks.now.numbers.now picks.now.layers result }
 {
+    let ports = picks.chart.ports();
+    let mut done = [false; MOST_PORTS];
     let mut best: Option<Found<C::Cost>> = None;
     for port in 0..ports {
         if !done[port] {
-            best = cycle_from(chart, ports, picks, port, seen, best);
-            mark_seen(seen, done);
+            best = cheaper_of(best, picks.repeat_from(port, seen));
+            mark_seen(seen, &mut done);
         }
     }
     best
 }
 
-// The cheapest cycle of picks in front of the buffer, where there is one.
-fn write_cycle<C: Chart>(
-    chart: &C,
-    ports: usize,
-    picks: &[u32],
-    seen: &mut [u32],
-    round: &mut [u16],
-) -> Option<usize>
-    requires picks { Pickable C.Cost.CostKind.kind (C.Chart.meaning chart.now) ports picks.now }
-    requires places { (length seen.old ≡ ports) × (ports ≤ length round.old) }
-    ensures { RoundIf (C.Chart.meaning chart.now) round.new result }
-{
-    let mut done = [false; MOST_PORTS];
-    match cheapest_cycle(chart, ports, picks, seen, &mut done) {
-        None => None,
-        Some(found) => {
-            let legs = found.repeat.legs;
-            write_round(chart, 0, picks, found.repeat, &mut round[0..legs]);
-            Some(legs)
-        }
-    }
-}
-
+// The cheapest cycle of picks in front of the buffer, where there is one. Picks serve every layer alike, so the rows of
+// their table stand no places apart.
 fn picked_round<C: Chart>(
     chart: &C,
     ports: usize,
@@ -174,9 +97,16 @@ fn picked_round<C: Chart>(
     requires places { (length numbers.old ≡ ports + ports) × (ports ≤ length round.old) }
     ensures { RoundIf (C.Chart.meaning chart.now) round.new result }
 {
-    let (seen, picks) = numbers.split_at_mut(ports);
-    pick_legs(chart, picks);
-    write_cycle(chart, ports, picks, seen, round)
+    let (seen, numbers) = numbers.split_at_mut(ports);
+    pick_legs(chart, numbers);
+    let picks = Predecessors {
+        chart,
+        numbers,
+        width: 0,
+        layers: ports,
+    };
+    let found = cheapest_cycle(&picks, seen)?;
+    Some(picks.write_found(found, round).legs)
 }
 
 // Some round, its legs in front of the buffer; or the chart has none.

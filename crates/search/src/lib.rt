@@ -11,6 +11,7 @@ pub mod layer;
 pub mod look;
 mod offer;
 pub mod over;
+pub mod predecessors;
 pub mod round;
 pub mod search;
 
@@ -18,6 +19,6 @@ pub use area::clear_area;
 pub use bare::{any_round, has_idle_round};
 pub use find::find_least;
 pub use first::first_round;
-pub use improve::{Improved, least_round};
+pub use improve::least_round;
 pub use over::has_over;
 pub use round::Held;

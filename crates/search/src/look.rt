@@ -1,12 +1,12 @@
-// A look at one layer: walks back from every port that it made lower, and the cheapest round that they come to.
-ghost use Rattle.std.specs.Prelude.{◌≡◌, ◌+◌, ◌<◌, ◌≤◌, ◌⊎◌, length, Some, None};
+// A look at the last layer: walks back from its ports, and the cheapest round that they come to.
+ghost use Rattle.std.specs.Prelude.{◌≡◌, ◌<◌, ◌≤◌, ◌⊎◌, length, None};
 ghost use Rattle.rows.specs.Kinds.{cheaper};
 ghost use Rattle.rounds.specs.Sizes.{SmallRate};
-ghost use Rattle.search.specs.Back.{Table};
-ghost use Rattle.search.specs.Look.{LookedFrom, Looked};
+ghost use Rattle.search.specs.Look.{Known, FoundFrom, LookedFrom, Written, Looked};
 
-use crate::back::{Repeat, number_at, walk_back};
-use crate::round::{Held, sum_back, write_round};
+use crate::back::Repeat;
+use crate::predecessors::Predecessors;
+use crate::round::Held;
 use charts::Chart;
 use costs::{CostKind, Rate};
 
@@ -27,88 +27,70 @@ fn is_cheaper<K: CostKind>(a: &Found<K>, b: &Found<K>) -> bool
     a.rate.is_cheaper_than(b.rate)
 }
 
-// The cheaper of the two. Which one it is saves time, and nothing rests on it.
-pub fn cheaper_of<K: CostKind>(best: Option<Found<K>>, new: Found<K>) -> Found<K>
-    ensures { (result ≡ new) ⊎ (best ≡ Some result) }
+// The cheaper of what was found. Which one it is saves time, and nothing rests on it.
+pub fn cheaper_of<K: CostKind>(best: Option<Found<K>>, new: Option<Found<K>>) -> Option<Found<K>>
+    ensures one { (result ≡ best) ⊎ (result ≡ new) }
+    ensures none { result ≡ None → (best ≡ None) × (new ≡ None) }
 {
-    match best {
-        None => new,
-        Some(old) => { if is_cheaper(&new, &old) { new } else { old } }
+    match (&best, &new) {
+        (None, _) => new,
+        (_, None) => best,
+        (Some(old), Some(found)) => { if is_cheaper(found, old) { new } else { best } }
     }
 }
 
-// Walks back from one port more.
-fn look_from<C: Chart>(
-    chart: &C,
-    ports: usize,
-    table: &[u32],
-    layer: usize,
-    port: usize,
-    seen: &mut [u32],
-    best: Option<Found<C::Cost>>,
-) -> Option<Found<C::Cost>>
-    requires table { Table C.Cost.CostKind.kind (C.Chart.meaning chart.now) ports table.now layer }
-    requires place { (0 < layer) × (port < ports) }
-    requires seen { length seen.old ≡ ports }
-    requires best { LookedFrom C.Cost.CostKind.row (C.Chart.meaning chart.now) ports table.now layer port best }
-    ensures { LookedFrom C.Cost.CostKind.row (C.Chart.meaning chart.now) ports table.now layer (port + 1) result }
-{
-    if number_at(table, ports, layer - 1, port) == 0 {
-        return best;
+impl<'a, C: Chart> Predecessors<'a, C> {
+    // The repeat to which a port leads back. A port without a predecessor needs no walk.
+    pub fn repeat_from(&self, port: usize, seen: &mut [u32]) -> Option<Found<C::Cost>>
+        requires some { 0 < self.now.layers }
+        requires port { port < (C.Chart.meaning self.now.chart.now).ports }
+        requires seen { length seen.old ≡ (C.Chart.meaning self.now.chart.now).ports }
+        ensures { FoundFrom C.Cost.CostKind.row (C.Chart.meaning self.now.chart.now) self.now.width self.now.numbers.now self.now.layers port result }
+    {
+        let Some(_) = self.leg(self.layers - 1, port) else {
+            return None;
+        };
+        let repeat = self.walk_back(port, seen)?;
+        let rate = self.sum_back(repeat);
+        Some(Found { repeat, rate })
     }
-    match walk_back(chart, ports, table, layer, port, seen) {
-        None => best,
-        Some(repeat) => {
-            let rate = sum_back(chart, ports, table, repeat);
-            Some(cheaper_of(best, Found { repeat, rate }))
+
+    // The cheapest of the repeats to which the ports lead back.
+    fn cheapest_repeat(&self, seen: &mut [u32]) -> Option<Found<C::Cost>>
+        requires some { 0 < self.now.layers }
+        requires seen { length seen.old ≡ (C.Chart.meaning self.now.chart.now).ports }
+        ensures { LookedFrom C.Cost.CostKind.row (C.Chart.meaning self.now.chart.now) self.now.width self.now.numbers.now self.now.layers (C.Chart.meaning self.now.chart.now).ports result }
+    {
+        let ports = self.chart.ports();
+        let mut best: Option<Found<C::Cost>> = None;
+        for port in 0..ports {
+            best = cheaper_of(best, self.repeat_from(port, seen));
+        }
+        best
+    }
+
+    // Writes a repeat in front of the buffer.
+    pub fn write_found(&self, found: Found<C::Cost>, round: &mut [u16]) -> Held<C::Cost>
+        requires known { Known C.Cost.CostKind.row (C.Chart.meaning self.now.chart.now) self.now.width self.now.numbers.now self.now.layers found }
+        requires round { (C.Chart.meaning self.now.chart.now).ports ≤ length round.old }
+        ensures { Written C.Cost.CostKind.row (C.Chart.meaning self.now.chart.now) self.now.width self.now.numbers.now self.now.layers round.new result }
+    {
+        let legs = found.repeat.legs;
+        self.write_round(found.repeat, &mut round[0..legs]);
+        Held {
+            legs,
+            rate: found.rate,
         }
     }
-}
 
-// The cheapest of the repeats to which the ports of a layer lead back.
-fn cheapest_repeat<C: Chart>(
-    chart: &C,
-    ports: usize,
-    table: &[u32],
-    layer: usize,
-    seen: &mut [u32],
-) -> Option<Found<C::Cost>>
-    requires table { Table C.Cost.CostKind.kind (C.Chart.meaning chart.now) ports table.now layer }
-    requires some { 0 < layer }
-    requires seen { length seen.old ≡ ports }
-    ensures { LookedFrom C.Cost.CostKind.row (C.Chart.meaning chart.now) ports table.now layer ports result }
-{
-    let mut best: Option<Found<C::Cost>> = None;
-    for port in 0..ports {
-        best = look_from(chart, ports, table, layer, port, seen, best);
-    }
-    best
-}
-
-// Writes the cheapest round that a layer leads back to in front of the buffer.
-pub fn cheapest_round<C: Chart>(
-    chart: &C,
-    ports: usize,
-    table: &[u32],
-    layer: usize,
-    seen: &mut [u32],
-    round: &mut [u16],
-) -> Option<Held<C::Cost>>
-    requires table { Table C.Cost.CostKind.kind (C.Chart.meaning chart.now) ports table.now layer }
-    requires some { 0 < layer }
-    requires seen { length seen.old ≡ ports }
-    requires round { ports ≤ length round.old }
-    ensures { Looked C.Cost.CostKind.row (C.Chart.meaning chart.now) ports table.now layer round.old round.new result }
-{
-    match cheapest_repeat(chart, ports, table, layer, seen) {
-        None => None,
-        Some(found) => {
-            let legs = found.repeat.legs;
-            write_round(chart, ports, table, found.repeat, &mut round[0..legs]);
-            Some(Held {
-                legs,
-                rate: found.rate,
-            })
-        }
+    // Writes the cheapest round that the last layer leads back to in front of the buffer.
+    pub fn cheapest_round(&self, seen: &mut [u32], round: &mut [u16]) -> Option<Held<C::Cost>>
+        requires some { 0 < self.now.layers }
+        requires seen { length seen.old ≡ (C.Chart.meaning self.now.chart.now).ports }
+        requires round { (C.Chart.meaning self.now.chart.now).ports ≤ length round.old }
+        ensures { Looked C.Cost.CostKind.row (C.Chart.meaning self.now.chart.now) self.now.width self.now.numbers.now self.now.layers round.old round.new result }
+    {
+        let found = self.cheapest_repeat(seen)?;
+        Some(self.write_found(found, round))
     }
 }

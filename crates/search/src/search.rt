@@ -1,11 +1,12 @@
 // A round cheaper than a rate, found layer by layer.
-ghost use Rattle.std.specs.Prelude.{◌≡◌, ℕ, ◌+◌, ◌*◌, ◌<◌, true, false, length};
+ghost use Rattle.std.specs.Prelude.{◌≡◌, ℕ, ◌+◌, ◌<◌, true, false, length};
 ghost use Rattle.rows.specs.Rows.{zero_row};
+ghost use Rattle.rounds.specs.Sizes.{SmallRate};
 ghost use Rattle.search.specs.Layer.{row_at, Ready};
-ghost use Rattle.search.specs.Search.{Area, Climbed, SomeLowered, Least, Searched};
+ghost use Rattle.search.specs.Search.{Area, Parts, Climbed, SomeLowered, Least, Searched};
 
-use crate::layer::{advance, relax_layer};
-use crate::look::cheapest_round;
+use crate::layer::relax_layer;
+use crate::predecessors::Predecessors;
 use crate::round::Held;
 use charts::Chart;
 use costs::{CostKind, Rate};
@@ -21,28 +22,24 @@ pub fn zero_costs<K: CostKind>(costs: &mut [K])
 // One layer more, its predecessors in the row of that number; and whether it made some port lower.
 fn climb<C: Chart>(
     chart: &C,
-    ports: usize,
     rate: Rate<C::Cost>,
     layer: usize,
     costs: &mut [C::Cost],
+    next: &mut [C::Cost],
     table: &mut [u32],
 ) -> bool
-    requires ready { Ready C.Cost.CostKind.kind C.Cost.CostKind.row (C.Chart.meaning chart.now) rate ports }
-    requires climbed { Climbed C.Cost.CostKind.kind C.Cost.CostKind.row (C.Chart.meaning chart.now) rate ports table.old costs.old layer }
-    requires more { layer < ports }
-    ensures next { result ≡ true → Climbed C.Cost.CostKind.kind C.Cost.CostKind.row (C.Chart.meaning chart.now) rate ports table.new costs.new (layer + 1) }
-    ensures lowered { result ≡ true → SomeLowered (C.Chart.meaning chart.now) ports table.new (layer + 1) }
+    requires ready { Ready C.Cost.CostKind.kind C.Cost.CostKind.row (C.Chart.meaning chart.now) rate }
+    requires climbed { Climbed C.Cost.CostKind.kind C.Cost.CostKind.row (C.Chart.meaning chart.now) rate table.old costs.old next.old layer }
+    requires more { layer < (C.Chart.meaning chart.now).ports }
+    ensures next { result ≡ true → Climbed C.Cost.CostKind.kind C.Cost.CostKind.row (C.Chart.meaning chart.now) rate table.new costs.new next.new (layer + 1) }
+    ensures lowered { result ≡ true → SomeLowered (C.Chart.meaning chart.now) table.new (layer + 1) }
     ensures least { result ≡ false → Least C.Cost.CostKind.kind C.Cost.CostKind.row (C.Chart.meaning chart.now) rate costs.new }
 {
-    let improved = relax_layer(
-        chart,
-        rate,
-        ports,
-        costs,
-        &mut table[layer * ports..(layer + 1) * ports],
-    );
+    let ports = costs.len();
+    let row = &mut table[layer * ports..(layer + 1) * ports];
+    let improved = relax_layer(chart, rate, costs, next, row);
     if improved {
-        advance(ports, costs);
+        costs.copy_from_slice(next);
     }
     improved
 }
@@ -54,30 +51,56 @@ fn is_looked_at(layer: usize, ports: usize) -> bool
     layer == ports || layer.is_power_of_two()
 }
 
-// A cheaper round in front of the buffer; or there is none, and the costs front holds the marks.
-pub fn find_cheaper<C: Chart>(
+fn search_layers<C: Chart>(
     chart: &C,
-    ports: usize,
     rate: Rate<C::Cost>,
     costs: &mut [C::Cost],
+    next: &mut [C::Cost],
     seen: &mut [u32],
     table: &mut [u32],
     round: &mut [u16],
 ) -> Option<Held<C::Cost>>
-    requires ready { Ready C.Cost.CostKind.kind C.Cost.CostKind.row (C.Chart.meaning chart.now) rate ports }
-    requires area { Area ports costs.old seen.old table.old round.old }
+    requires ready { Ready C.Cost.CostKind.kind C.Cost.CostKind.row (C.Chart.meaning chart.now) rate }
+    requires parts { Parts (C.Chart.meaning chart.now).ports costs.old next.old seen.old table.old round.old }
     ensures { Searched C.Cost.CostKind.kind C.Cost.CostKind.row (C.Chart.meaning chart.now) rate costs.new round.old round.new result }
 {
+    let ports = costs.len();
     zero_costs(costs);
+    next.copy_from_slice(costs);
     for layer in 0..ports {
-        if !climb(chart, ports, rate, layer, costs, table) {
+        if !climb(chart, rate, layer, costs, next, table) {
             return None;
         }
         if is_looked_at(layer + 1, ports) {
-            if let Some(held) = cheapest_round(chart, ports, table, layer + 1, seen, round) {
+            let preds = Predecessors {
+                chart,
+                numbers: table,
+                width: ports,
+                layers: layer + 1,
+            };
+            if let Some(held) = preds.cheapest_round(seen, round) {
                 return Some(held);
             }
         }
     }
     None
+}
+
+// A cheaper round in front of the buffer; or there is none, and the costs front holds the marks. The lent area is cut
+// into two layers of costs, a row for the ports seen, and the table of predecessors.
+pub fn find_cheaper<C: Chart>(
+    chart: &C,
+    rate: Rate<C::Cost>,
+    costs: &mut [C::Cost],
+    numbers: &mut [u32],
+    round: &mut [u16],
+) -> Option<Held<C::Cost>>
+    requires rate { SmallRate C.Cost.CostKind.kind (C.Cost.CostKind.row rate.cost) rate.hours }
+    requires area { Area (C.Chart.meaning chart.now).ports costs.old numbers.old round.old }
+    ensures { Searched C.Cost.CostKind.kind C.Cost.CostKind.row (C.Chart.meaning chart.now) rate costs.new round.old round.new result }
+{
+    let ports = chart.ports();
+    let (reached, next) = costs.split_at_mut(ports);
+    let (seen, table) = numbers.split_at_mut(ports);
+    search_layers(chart, rate, reached, next, seen, table, round)
 }

@@ -1,5 +1,5 @@
-use Rattle.search.specs.First.{FoundCycle}
+use Rattle.search.specs.Look.{KnownIf}
 use Rattle.search.proofs.first.cheapest_cycle.Given as goal
 
 abbrev pub invariant-loop-port : goal.invariant-loop-port
-invariant-loop-port g l = FoundCycle g.C.Cost.CostKind.kind (g.C.Chart.meaning l.chart) l.picks l.best
+invariant-loop-port g l = KnownIf g.C.Cost.CostKind.row (g.C.Chart.meaning l.picks.chart.now) l.picks.width l.picks.numbers.now l.picks.layers l.best

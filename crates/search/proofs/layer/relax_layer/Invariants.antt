@@ -1,10 +1,5 @@
-use Rattle.search.specs.Layer.{Relaxing, SameLayer}
+use Rattle.search.specs.Layer.{Relaxing}
 use Rattle.search.proofs.layer.relax_layer.Given as goal
 
 abbrev pub invariant-loop-n : goal.invariant-loop-n
-invariant-loop-n g l =
-    let k = g.C.Cost.CostKind in
-    record {
-      relaxing : Relaxing k.kind k.row (g.C.Chart.meaning l.chart) l.rate l.costs l.preds l.n l.improved;
-      same : SameLayer k.row l.ports l.initial.costs l.costs;
-    }
+invariant-loop-n g l = let k = g.C.Cost.CostKind in Relaxing k.kind k.row (g.C.Chart.meaning l.chart) l.rate l.costs l.next l.preds l.n l.improved

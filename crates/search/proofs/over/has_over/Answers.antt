@@ -15,7 +15,7 @@ shown_over (leg f) e = cc
 shown_over over e = cc
 
 told : (m : Meaning) (r : Bool) → (let ns = range_with_len 0 (length m.entries) in
-      MatchBool r ((n : ℕ) × (n < length ns) × HoldsAt (λ n. is_over (shown_at m n) ≡ true) ns n) (AllWithin (λ n. is_over (shown_at m n) ≡ false) ns 0 (length ns)))
+    MatchBool r ((n : ℕ) × (n < length ns) × HoldsAt (λ n. is_over (shown_at m n) ≡ true) ns n) (AllWithin (λ n. is_over (shown_at m n) ≡ false) ns 0 (length ns)))
     → (r ≡ true → SomeOver m) × (r ≡ false → SomeOver m → ⊥)
 told m true h = (λ e. (_, shown_over _ (h.2 0)), λ e. clash refl e)
 told m false h = (λ e. clash e refl, λ e o. not_at o.0 o.1 (cases_lt o.0 (length m.entries)))
