@@ -77,7 +77,9 @@ fn cheapest_cycle<C: Chart>(picks: &Predecessors<'_, C>, seen: &mut [u32]) -> Op
     let mut best: Option<Found<C::Cost>> = None;
     for port in 0..ports {
         if !done[port] {
-            best = cheaper_of(best, picks.repeat_from(port, seen));
+            if let Some(found) = picks.repeat_from(port, seen) {
+                best = Some(cheaper_of(best, found));
+            }
             mark_seen(seen, &mut done);
         }
     }

@@ -1,5 +1,5 @@
 // A look at the last layer: walks back from its ports, and the cheapest round that they come to.
-ghost use Rattle.std.specs.Prelude.{◌≡◌, ◌<◌, ◌≤◌, ◌⊎◌, length, None};
+ghost use Rattle.std.specs.Prelude.{◌≡◌, ◌<◌, ◌≤◌, ◌⊎◌, length, Some};
 ghost use Rattle.rows.specs.Kinds.{cheaper};
 ghost use Rattle.rounds.specs.Sizes.{SmallRate};
 ghost use Rattle.search.specs.Look.{Known, FoundFrom, LookedFrom, Written, Looked};
@@ -27,15 +27,13 @@ fn is_cheaper<K: CostKind>(a: &Found<K>, b: &Found<K>) -> bool
     a.rate.is_cheaper_than(b.rate)
 }
 
-// The cheaper of what was found. Which one it is saves time, and nothing rests on it.
-pub fn cheaper_of<K: CostKind>(best: Option<Found<K>>, new: Option<Found<K>>) -> Option<Found<K>>
-    ensures one { (result ≡ best) ⊎ (result ≡ new) }
-    ensures none { result ≡ None → (best ≡ None) × (new ≡ None) }
+// The cheaper of the two. Which one it is saves time, and nothing rests on it.
+pub fn cheaper_of<K: CostKind>(best: Option<Found<K>>, new: Found<K>) -> Found<K>
+    ensures { (result ≡ new) ⊎ (best ≡ Some result) }
 {
-    match (&best, &new) {
-        (None, _) => new,
-        (_, None) => best,
-        (Some(old), Some(found)) => { if is_cheaper(found, old) { new } else { best } }
+    match best {
+        None => new,
+        Some(old) => { if is_cheaper(&new, &old) { new } else { old } }
     }
 }
 
@@ -64,7 +62,9 @@ impl<'a, C: Chart> Predecessors<'a, C> {
         let ports = self.chart.ports();
         let mut best: Option<Found<C::Cost>> = None;
         for port in 0..ports {
-            best = cheaper_of(best, self.repeat_from(port, seen));
+            if let Some(found) = self.repeat_from(port, seen) {
+                best = Some(cheaper_of(best, found));
+            }
         }
         best
     }
