@@ -41,7 +41,10 @@ fn stays_past_the_hours(rt: HostRuntime) {
         })
     );
     stays[0] = 10;
-    assert_eq!(rt; Layered::new(&chart, Stays::new(stays)).entry(0), Entry::Over);
+    assert_eq!(rt;
+        Layered::new(&chart, Stays::new(stays)).entry(0),
+        Entry::Over
+    );
 }
 
 // The last of the stays counts too, whatever the number of ports.

@@ -15,10 +15,7 @@ pub fn leg<K: CostKind>(hours: u32, cost: K) -> Leg<K> {
 }
 
 // The answer to entering one leg in a chart of one port over a blank table.
-fn enter_alone<K: CostKind>(
-    table: &mut [Option<Leg<K>>],
-    leg: Leg<K>,
-) -> Result<(), Refusal> {
+fn enter_alone<K: CostKind>(table: &mut [Option<Leg<K>>], leg: Leg<K>) -> Result<(), Refusal> {
     WrittenChart::open(1, table).enter(0, leg)
 }
 
@@ -87,10 +84,7 @@ fn grids_at_their_limits(rt: HostRuntime) -> Result<(), Fail> {
     assert_eq!(rt; GridChart::check(64, &hours, free), Ok(()));
     assert_eq!(rt; GridChart::check(65, &wide, free), Err(Refusal::Port));
     assert_eq!(rt; GridChart::check(63, &hours, free), Err(Refusal::Length));
-    assert_eq!(rt;
-        GridChart::check(64, &hours, dear),
-        Err(Refusal::Cost)
-    );
+    assert_eq!(rt; GridChart::check(64, &hours, dear), Err(Refusal::Cost));
     assert_eq!(rt; GridChart::open(64, &hours, free).count(), 4_096);
     assert_eq!(rt; GridChart::open(65, &wide, free).ports(), 1);
     let small = [0, 9_999, 10_000, 1];
