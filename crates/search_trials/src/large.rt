@@ -16,7 +16,7 @@ fn tell_least<K: CostKind>(
     let chart = WrittenChart::open(256, table);
     match find_least(&chart, &mut costs, &mut numbers, &mut round) {
         Ok(held) => println!(rt; "{name}: {} in the least round", held.legs)?,
-        Err(refusal) => println!(rt; "{name}: refused, {}", refusal.number())?,
+        Err(refusal) => println!(rt; "{name}: {refusal}")?,
     }
     Ok(())
 }

@@ -13,8 +13,10 @@ const LENGTH: usize = 181;
 // The chart sheet of the triangle, as it is written.
 fn own_sheet() -> [u8; LENGTH] {
     let [first, second, third, fourth] = triangle_at(300);
-    let legs = [(0, first), (1, second), (2, third), (3, fourth)]
-        .map(|(number, leg)| NumberedLeg { number, leg });
+    let legs = [(0, first), (1, second), (2, third), (3, fourth)].map(|(number, leg)| NumberedLeg {
+        number,
+        leg,
+    });
     let mut out = [0; LENGTH];
     let _ = write_sheet(Form::Chart, 3, &legs, &mut out);
     out
