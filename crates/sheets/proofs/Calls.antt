@@ -1,6 +1,6 @@
 -- What the calls on a sheet leave where they are not refused. Assumes nothing.
-use Rattle.std.proofs.Common.{◌≡◌, ℕ, ◌≤◌, List, [], length, None, Ok, Option, sym, ap, ◌∙◌, subst, arith}
-use Rattle.limits.specs.Numbers.{most_places}
+use Rattle.std.proofs.Common.{◌≡◌, ℕ, ◌<◌, ◌≤◌, List, [], length, None, Ok, Option, sym, ap, ◌∙◌, subst, arith}
+use Rattle.limits.specs.Numbers.{most_legs, most_hours, most_cost, most_places}
 use Rattle.limits.specs.Refusals.{if_refused, answer}
 use Rattle.limits.specs.declared.refusal.Refusal.{Refusal}
 use Rattle.rows.specs.Rows.{Narrow}
@@ -9,7 +9,6 @@ use Rattle.columns.specs.Put.{put}
 use Rattle.sheets.specs.declared.form.Form.{Form}
 use Rattle.sheets.specs.declared.sheet.BegunSheet.{BegunSheet}
 use Rattle.sheets.specs.declared.sheet.ClosedSheet.{ClosedSheet}
-use Rattle.sheets.specs.declared.sheet.Closing.TheVariants.{Closed}
 use Rattle.sheets.specs.Places.{largest}
 use Rattle.sheets.specs.Form.{Numbered, head_line, leg_line, end_line}
 use Rattle.sheets.specs.Begun.{Begun, begun, opened, with_leg, begin_refusal, line_refusal, close_refusal, closed_length}
@@ -32,6 +31,13 @@ begins k form ports out out' b narrow none sheet bytes =
       holds = λ _. subst (Holds k (record { form = form; ports = ports; legs = [] }) (opened form ports)) (sym bytes) (begun_holds k form ports out narrow t.0 t.1);
     }
 
+-- where a leg line is not refused, its numbers fit their columns
+pub line_fits : (k : Kind) (b : Begun) (l : Numbered) (len : ℕ) → line_refusal k b l len ≡ None → largest l.leg.cost ≤ k.size l.leg.cost
+    → (l.number < most_legs) × ((l.leg.hours ≤ most_hours) × (largest l.leg.cost ≤ most_cost))
+line_fits k b l len none small =
+    let t = line_taken k b l len none in
+    (t.below_limit, (t.allowed.few_hours, omega (arith, small, t.allowed.small_cost)))
+
 pub takes : (k : Kind) (b b' : Begun) (l : Numbered) (out out' : List ℕ) → Narrow k.places l.leg.cost → largest l.leg.cost ≤ k.size l.leg.cost
     → line_refusal k b l (length out) ≡ None → b' ≡ with_leg k.places b l → out' ≡ put out b.end (leg_line k.places l)
     → Takes k b l out (Ok tt) b' out'
@@ -48,7 +54,7 @@ takes k b b' l out out' narrow small none sheet bytes =
 
 pub ends : {K : Type 0} (k : Kind) (b : BegunSheet K) (c : ClosedSheet) (out out' : List ℕ) → close_refusal k.places (begun b) (length out) ≡ None
     → c.length ≡ closed_length k.places (begun b) → out' ≡ put out (begun b).end (end_line k.places (begun b).legs (begun b).hours (begun b).cost)
-    → Ends k b out (Closed c) out'
+    → Ends k b out (Ok c) out'
 ends k b c out out' none length_is bytes =
     record {
       answered = (none, length_is);
