@@ -47,9 +47,10 @@ place_at p (suc (suc zero)) few = refl
 place_at p (suc (suc (suc zero))) few = refl
 place_at p (suc (suc (suc (suc i)))) few = sym (get_or_past p.numbers (suc (suc (suc (suc i)))) (pos 0) (omega arith))
 
--- the number that stands at an index of the first n
-pub place_taken : (p : Places) (n i : ℕ) → length p.numbers ≤ most_places → i < n → get_or (take n p.numbers) i (pos 0) ≡ place (row_of p) i
-place_taken p n i few below = get_or-take n p.numbers i (pos 0) below ∙ sym (place_at p i few)
+-- the number read at an index of the first n
+pub place_read : (p : Places) (n i : ℕ) → SFits w64 (get_or (take n p.numbers) i (pos 0)) → length p.numbers ≤ most_places → i < n
+    → to_z w64 (of_z w64 (get_or (take n p.numbers) i (pos 0))) ≡ place (row_of p) i
+place_read p n i fit few below = to_z-of_z w64 _ fit ∙ get_or-take n p.numbers i (pos 0) below ∙ sym (place_at p i few)
 
 -- rows that agree in their first n places and have no others are the same
 pub rows_same : (n : ℕ) (a b : Row) → SamePlaces n a b → Narrow n a → Narrow n b → a ≡ b

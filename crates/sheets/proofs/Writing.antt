@@ -1,10 +1,10 @@
 -- Bytes written one after the other, and how long they are. Assumes nothing.
-use Rattle.std.proofs.Common.{◌≡◌, ℕ, zero, suc, ◌+◌, ◌-◌, ◌*◌, ◌^◌, ◌<◌, ◌≤◌, List, [], ◌++◌, length, ℤ, nat_abs, refl, sym, ap, ◌∙◌, mul-zero, mul-suc, add-one, arith}
+use Rattle.std.proofs.Common.{◌≡◌, ℕ, zero, suc, ◌+◌, ◌-◌, ◌*◌, ◌^◌, ◌<◌, ◌≤◌, List, [], ◌++◌, length, ℤ, pos, nat_abs, refl, sym, ap, ◌∙◌, mul-zero, mul-suc, add-one, arith}
 use Rattle.std.proofs.lemmas.List.{length-append}
 use Rattle.rows.specs.Rows.{Row, place}
 use Rattle.columns.specs.Columns.{column}
 use Rattle.columns.specs.Put.{put}
-use Rattle.columns.proofs.Columns.{fits_signed, length_column}
+use Rattle.columns.proofs.Columns.{fits_unsigned, fits_signed, length_column}
 use Rattle.columns.proofs.Puts.{put_none, put_after}
 use Rattle.sheets.specs.declared.lines.LineWriter.{LineWriter}
 use Rattle.sheets.specs.Places.{largest}
@@ -17,6 +17,9 @@ place_small r (suc zero) = omega arith
 place_small r (suc (suc zero)) = omega arith
 place_small r (suc (suc (suc zero))) = omega arith
 place_small r (suc (suc (suc (suc i)))) = omega arith
+
+pub length_unsigned : (w n : ℕ) → 0 < w → n < 10 ^ w → length (column w (pos n)) ≡ w
+length_unsigned w n some below = length_column w (pos n) (fits_unsigned w n some below)
 
 pub length_signed : (w : ℕ) (z : ℤ) → 0 < w → nat_abs z < 10 ^ (w - 1) → length (column w z) ≡ w
 length_signed w z some below = length_column w z (fits_signed w z some below)

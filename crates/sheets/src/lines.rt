@@ -4,7 +4,7 @@ ghost use Rattle.limits.specs.Numbers.{most_ports, most_legs, most_hours, most_c
 ghost use Rattle.columns.specs.Columns.{column};
 ghost use Rattle.columns.specs.Put.{put};
 ghost use Rattle.sheets.specs.Places.{row_of, largest};
-ghost use Rattle.sheets.specs.Form.{place_columns, head_line, leg_line, end_line, head_length, leg_length, end_length};
+ghost use Rattle.sheets.specs.Form.{number_width, place_columns, head_line, leg_line, end_line, head_length, leg_length, end_length};
 ghost use Rattle.sheets.specs.Writing.{numbered_of};
 ghost use Rattle.sheets.specs.Lines.{Puts};
 
@@ -55,6 +55,16 @@ impl LineWriter<'_> {
         self.at = put_signed(self.out, self.at, width, z);
     }
 
+    // Puts a leg number, a port or a count.
+    fn put_count(&mut self, n: usize)
+        requires room { self.old.at + number_width ≤ length self.old.out.now }
+        requires fits { n < 10 ^ number_width }
+        ensures { Puts self.old self.new (column number_width (pos n)) number_width }
+    {
+        // A cast, since no From leads from usize to u64.
+        self.put_number(NUMBER_WIDTH, n as u64);
+    }
+
     // Puts as many places of a cost as its kind has, each into a column.
     fn put_places<K: SheetKind>(&mut self, width: usize, places: Places)
         requires room { self.old.at + width * K.CostKind.kind.places ≤ length self.old.out.now }
@@ -75,8 +85,8 @@ pub fn put_head<K: SheetKind>(out: &mut [u8], form: Form, ports: usize)
 {
     let mut line = LineWriter { out, at: 0 };
     line.put_byte(form.letter());
-    line.put_number(NUMBER_WIDTH, ports as u64);
-    line.put_number(NUMBER_WIDTH, K::place_count() as u64);
+    line.put_count(ports);
+    line.put_count(K::place_count());
     line.put_byte(LINE_FEED);
 }
 
@@ -89,9 +99,9 @@ pub fn put_leg<K: SheetKind>(out: &mut [u8], at: usize, line: NumberedLeg<K>)
     let NumberedLeg { number, leg } = line;
     let mut line = LineWriter { out, at };
     line.put_byte(LEG_LETTER);
-    line.put_number(NUMBER_WIDTH, number as u64);
-    line.put_number(NUMBER_WIDTH, u64::from(leg.from));
-    line.put_number(NUMBER_WIDTH, u64::from(leg.to));
+    line.put_count(number);
+    line.put_count(usize::from(leg.from));
+    line.put_count(usize::from(leg.to));
     line.put_number(HOURS_WIDTH, u64::from(leg.hours));
     line.put_places::<K>(COST_WIDTH, leg.cost.places());
     line.put_byte(LINE_FEED);
@@ -105,7 +115,7 @@ pub fn put_end<K: SheetKind>(out: &mut [u8], tally: &Tally) -> usize
 {
     let mut line = LineWriter { out, at: tally.end };
     line.put_byte(END_LETTER);
-    line.put_number(NUMBER_WIDTH, tally.legs as u64);
+    line.put_count(tally.legs);
     line.put_number(SUMMED_HOURS_WIDTH, tally.hours);
     line.put_places::<K>(SUMMED_COST_WIDTH, tally.cost);
     line.put_byte(LINE_FEED);

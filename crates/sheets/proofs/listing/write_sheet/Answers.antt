@@ -13,9 +13,6 @@ returns-in_err-sheet g c =
     let p = err_from_is_err_and c.from_residual.result c.from_residual.ensures.1 in
     rw (p.1, p.2) (not_begun g.K.CostKind.kind legs c.in_err-sheet.ensures)
 
-pub loop-leg-init : goal.loop-leg-init
-loop-leg-init g c = λ form out p. p
-
 pub loop-leg-preserved : goal.loop-leg-preserved
 loop-leg-preserved g c = λ form out p.
     let k = g.K.CostKind.kind in

@@ -1,8 +1,7 @@
-use Rattle.std.proofs.Common.{◌≡◌, ℕ, length, get_or, take, pos, ◌∙◌, mul-zero, arith, w64, SFits, rules}
-use Rattle.std.proofs.lemmas.Int.{to_z-of_z}
+use Rattle.std.proofs.Common.{ℕ, mul-zero, arith, rules}
 use Rattle.sheets.specs.Places.{row_of}
 use Rattle.sheets.specs.Form.{place_columns}
-use Rattle.sheets.proofs.Sums.{place_taken}
+use Rattle.sheets.proofs.Sums.{place_read}
 use Rattle.sheets.proofs.Writing.{place_small, puts_none, puts_place}
 use Rattle.sheets.proofs.lines.LineWriter.put_places.Goals as goal
 
@@ -13,15 +12,11 @@ loop-number-init g c = rw mul-zero (puts_none c.args.self.now)
 pub put_signed-requires-clause-fits : goal.put_signed-requires-clause-fits
 put_signed-requires-clause-fits g c =
     let i : ℕ = c.loop-number.number-index in
-    let few : length c.args.places.numbers ≡ 4 = search rules in
-    let fit : SFits w64 (get_or (take c.place_count.result c.args.places.numbers) i (pos 0)) = search rules in
-    let is = to_z-of_z w64 _ fit ∙ place_taken c.args.places c.place_count.result i (omega arith) (omega arith) in
-    (c.requires.fits.0, rw is (omega (arith, place_small (row_of c.args.places) i)))
+    let read = place_read c.args.places c.place_count.result i (search rules) (search rules) (omega arith) in
+    (c.requires.fits.0, rw read (omega (arith, place_small (row_of c.args.places) i)))
 
 pub loop-number-preserved : goal.loop-number-preserved
 loop-number-preserved g c =
     let i : ℕ = c.loop-number.number-index in
-    let few : length c.args.places.numbers ≡ 4 = search rules in
-    let fit : SFits w64 (get_or (take c.place_count.result c.args.places.numbers) i (pos 0)) = search rules in
-    let is = to_z-of_z w64 _ fit ∙ place_taken c.args.places c.place_count.result i (omega arith) (omega arith) in
-    puts_place c.args.width i (row_of c.args.places) (omega arith) c.loop-number.invariant (rw is at c.put_signed.ensures)
+    let read = place_read c.args.places c.place_count.result i (search rules) (search rules) (omega arith) in
+    puts_place c.args.width i (row_of c.args.places) (omega arith) c.loop-number.invariant (rw read at c.put_signed.ensures)
