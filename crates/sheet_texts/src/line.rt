@@ -14,12 +14,13 @@ use sheets::form::{COST_WIDTH, HOURS_WIDTH, NUMBER_WIDTH, SUMMED_COST_WIDTH, SUM
 const LINE_FEED: u8 = b'\n';
 
 #[derive(Clone, Copy)]
-pub struct LegLine {
+pub struct LegLine<C> {
     pub number: u64,
     pub from: u64,
     pub to: u64,
     pub hours: u64,
-    pub cost: Places,
+    // the places that are read, or the cost of these places
+    pub cost: C,
 }
 
 #[derive(Clone, Copy)]
@@ -104,9 +105,9 @@ pub fn read_head(columns: &[u8], places: usize) -> Option<u64>
 }
 
 // The numbers of a leg line whose cost has so many places.
-pub fn read_leg(columns: &[u8], places: usize) -> Option<LegLine>
+pub fn read_leg(columns: &[u8], places: usize) -> Option<LegLine<Places>>
     requires { places ≤ most_places }
-    ensures { MatchOption result ((l : Numbered) → LegColumns places columns.now l → ⊥) (λ l. LegColumns places columns.now (line_leg l) × Narrow places (row_of l.cost)) }
+    ensures { MatchOption result ((l : Numbered) → LegColumns places columns.now l → ⊥) (λ l. LegColumns places columns.now (line_leg row_of l) × Narrow places (row_of l.cost)) }
 {
     let (number, at) = read_unsigned(columns, 0, NUMBER_WIDTH)?;
     let (from, at) = read_unsigned(columns, at, NUMBER_WIDTH)?;
