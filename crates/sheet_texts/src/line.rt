@@ -34,7 +34,7 @@ pub struct EndLine {
 fn ends_line(columns: &[u8], at: usize) -> bool
     ensures { Decides result (slice_index columns.now at ≡ line_feed) }
 {
-    at < columns.len() && columns[at] == LINE_FEED
+    columns.get(at) == Some(&LINE_FEED)
 }
 
 // The places with another number in place i.
@@ -97,11 +97,10 @@ pub fn read_head(columns: &[u8], places: usize) -> Option<u64>
 {
     let (ports, at) = read_unsigned(columns, 0, NUMBER_WIDTH)?;
     let (shown, at) = read_unsigned(columns, at, NUMBER_WIDTH)?;
-    if shown == places as u64 && ends_line(columns, at) {
-        Some(ports)
-    } else {
-        None
+    if shown != places as u64 {
+        return None;
     }
+    ends_line(columns, at).then_some(ports)
 }
 
 // The numbers of a leg line whose cost has so many places.
@@ -114,17 +113,13 @@ pub fn read_leg(columns: &[u8], places: usize) -> Option<LegLine<Places>>
     let (to, at) = read_unsigned(columns, at, NUMBER_WIDTH)?;
     let (hours, at) = read_unsigned(columns, at, HOURS_WIDTH)?;
     let (cost, at) = read_places(columns, at, COST_WIDTH, places)?;
-    if ends_line(columns, at) {
-        Some(LegLine {
-            number,
-            from,
-            to,
-            hours,
-            cost,
-        })
-    } else {
-        None
-    }
+    ends_line(columns, at).then_some(LegLine {
+        number,
+        from,
+        to,
+        hours,
+        cost,
+    })
 }
 
 // The numbers of an end line whose summed cost has so many places.
@@ -135,9 +130,5 @@ pub fn read_end(columns: &[u8], places: usize) -> Option<EndLine>
     let (legs, at) = read_unsigned(columns, 0, NUMBER_WIDTH)?;
     let (hours, at) = read_unsigned(columns, at, SUMMED_HOURS_WIDTH)?;
     let (cost, at) = read_places(columns, at, SUMMED_COST_WIDTH, places)?;
-    if ends_line(columns, at) {
-        Some(EndLine { legs, hours, cost })
-    } else {
-        None
-    }
+    ends_line(columns, at).then_some(EndLine { legs, hours, cost })
 }
