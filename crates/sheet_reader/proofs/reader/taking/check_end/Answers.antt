@@ -1,18 +1,15 @@
 use Rattle.std.proofs.Common.{sym, ◌∙◌}
 use Rattle.std.proofs.lemmas.Bool.{false≢true}
-use Rattle.std.proofs.lemmas.Result.{err_from_is_err_and}
+use Rattle.limits.specs.declared.refusal.Refusal.TheVariants.{Malformed}
 use Rattle.sheets.specs.Places.{row_of}
-use Rattle.sheet_reader.proofs.Answering.{error_is}
+use Rattle.sheet_reader.proofs.Answering.{missing_passed_on}
 use Rattle.sheet_reader.proofs.EndLines.{end_malformed, sums_differ, end_taken}
 use Rattle.sheet_reader.proofs.reader.taking.check_end.Goals as goal
 
 pub returns-in_err-end : goal.returns-in_err-end
 returns-in_err-end g c m =
-    let k = g.K.CostKind.kind in
-    let none = rw (c.in_err-end.ensures.ok_part, c.place_count.ensures) at c.read_end.ensures in
-    let p = err_from_is_err_and c.from_residual.result c.from_residual.ensures.1 in
-    rw (p.1, p.2, error_is c.in_err-end.ensures.ok_part c.in_err-end.ensures.value)
-    (end_malformed k m c.args.columns.now c.args.tally.now g.K.CostKind.lawful.few_places none)
+    missing_passed_on _ _ c.from_residual.result c.read_end.result _ Malformed c.from_residual.ensures.1 c.in_err-end.ensures.ok_part c.in_err-end.ensures.value
+    (end_malformed g.K.CostKind.kind m c.args.columns.now c.args.tally.now g.K.CostKind.lawful.few_places (rw (c.in_err-end.ensures.ok_part, c.place_count.ensures) at c.read_end.ensures))
 
 pub returns-then-has_sums : goal.returns-then-has_sums
 returns-then-has_sums g c m =
