@@ -15,17 +15,11 @@ pub fn check_text<K: SheetKind>(text: &[u8], bounds: Bounds) -> Result<Tally, Fa
     let mut line: usize = 1;
     loop {
         if rest.is_empty() {
-            break reader.ended().ok_or(Fault {
-                refusal: Refusal::Malformed,
-                line: Some(line),
-            });
+            break reader.ended().ok_or(Fault::at(line, Refusal::Malformed));
         }
         match reader.take_line::<K>(bounds, rest) {
             Ok(length) => rest = &rest[length..],
-            Err(refusal) => break Err(Fault {
-                refusal,
-                line: Some(line),
-            }),
+            Err(refusal) => break Err(Fault::at(line, refusal)),
         }
         line += 1;
     }

@@ -1,5 +1,5 @@
 // Why a text is refused and at which line, and the limits that a caller sets.
-ghost use Rattle.std.specs.Prelude.{◌≤◌, Some};
+ghost use Rattle.std.specs.Prelude.{◌≡◌, ◌≤◌, Some};
 ghost use Rattle.limits.specs.Numbers.{most_legs};
 
 use limits::refusal::Refusal;
@@ -10,6 +10,17 @@ pub struct Fault {
     pub refusal: Refusal,
     // counted from 1; none where no line is at fault
     pub line: Option<usize>,
+}
+
+impl Fault {
+    pub(crate) fn at(line: usize, refusal: Refusal) -> Fault
+        ensures { result ≡ record { refusal = refusal; line = Some line } }
+    {
+        Fault {
+            refusal,
+            line: Some(line),
+        }
+    }
 }
 
 impl fmt::Display for Fault {

@@ -22,13 +22,6 @@ fn first_leg<K: SheetKind>(text: &[u8]) -> Option<LegLine<K>>
     }
 }
 
-// What follows the first n bytes.
-pub fn past(text: &[u8], n: usize) -> &[u8]
-    ensures { result.now ≡ drop n text.now }
-{
-    &text[n.min(text.len())..]
-}
-
 // Puts the leg of the line that the text begins with under its number, and answers what follows the line.
 fn place_leg<'a, K: SheetKind>(text: &'a [u8], table: &mut [Option<Leg<K>>]) -> &'a [u8]
     requires { (l : Numbered) × (more : List ℕ) × LegNext K.CostKind.kind (length table.old) text.now l more }
@@ -36,11 +29,9 @@ fn place_leg<'a, K: SheetKind>(text: &'a [u8], table: &mut [Option<Leg<K>>]) -> 
     ensures table { (l : Numbered) (more : List ℕ) → LegNext K.CostKind.kind (length table.old) text.now l more
         → table_figures K.CostKind.row table.new ≡ slice_set (table_figures K.CostKind.row table.old) l.number (Some l.leg) }
 {
-    let Some(line) = first_leg(text) else {
-        return text;
-    };
+    let line = first_leg::<K>(text).unwrap();
     put(table, line.number as usize, Some(leg_of(line)));
-    past(text, leg_length(K::place_count()))
+    &text[leg_length(K::place_count())..]
 }
 
 // Puts the legs of so many lines, which the text begins with, under their numbers.

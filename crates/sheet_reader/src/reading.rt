@@ -6,7 +6,7 @@ ghost use Rattle.sheet_reader.specs.Tables.{Reads};
 
 use crate::checking::check_text;
 use crate::fault::{Bounds, Fault};
-use crate::filling::{past, place_legs};
+use crate::filling::place_legs;
 use charts::Leg;
 use costs::CostKind;
 use limits::MOST_LEGS;
@@ -26,7 +26,7 @@ fn fill_table<K: SheetKind>(
     ensures { Reads K.CostKind.kind K.CostKind.row bounds.ports text.now table.old (Ok tally.now.ports) table.new }
 {
     table.fill(None);
-    place_legs(past(text, HEAD_LENGTH), tally.legs, table);
+    place_legs(&text[HEAD_LENGTH..], tally.legs, table);
 }
 
 // Puts each leg of the sheet under its number, makes every other place blank, and answers the ports of the chart.
