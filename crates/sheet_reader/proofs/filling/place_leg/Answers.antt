@@ -9,15 +9,14 @@ use Rattle.sheet_reader.proofs.Placing.{first_line, read_same}
 use Rattle.sheet_reader.proofs.filling.place_leg.Goals as goal
 
 pub returns-in_default : goal.returns-in_default
-returns-in_default g c = absurd ((rw c.place_count-places.ensures at c.in_default.ensures) c.requires.0 (first_line c.requires.2).columns)
+returns-in_default g c = absurd (c.in_default.ensures c.requires.0 (first_line c.requires.2).columns)
 
 pub leg_of-requires : goal.leg_of-requires
 leg_of-requires g c =
     let line = c.in-Some.line in
-    let k = g.K.CostKind.kind in
-    let read = rw c.place_count-places.ensures at c.in-Some.ensures in
-    let same : line_leg line ≡ c.requires.0 = read_same c.requires.1 (line_leg line) c.requires.2 read.1 read.0 in
-    record { narrow = read.1; allowed = subst (λ (l : Numbered). Allowed k most_ports l.leg) (sym same) c.requires.2.0.allowed }
+    let row = g.K.CostKind.row in
+    let same : line_leg row line ≡ c.requires.0 = read_same c.requires.1 (line_leg row line) c.requires.2 (g.K.CostKind.narrow line.cost) c.in-Some.ensures in
+    subst (λ (l : Numbered). Allowed g.K.CostKind.kind most_ports l.leg) (sym same) c.requires.2.0.allowed
 
 pub returns : goal.returns
 returns g c =
@@ -25,12 +24,11 @@ returns g c =
     let text = c.args.text.now in
     let table = c.args.table.now in
     let line = c.in-Some.line in
-    let read = rw c.place_count-places.ensures at c.in-Some.ensures in
     record {
-      rest = λ l more next. c.past.ensures ∙ ap (λ (n : ℕ). drop n text) (c.leg_length.ensures ∙ ap leg_length c.place_count-places.ensures) ∙ (first_line next).rest;
+      rest = λ l more next. c.past.ensures ∙ ap (λ (n : ℕ). drop n text) (c.leg_length.ensures ∙ ap leg_length c.place_count.ensures) ∙ (first_line next).rest;
       table = λ l more next.
           ap (table_figures row) c.put.ensures
           ∙ map-set (place_figures row) table line.number (Some c.leg_of.result)
           ∙ ap (λ (f : Figures). set (table_figures row table) line.number (Some f)) c.leg_of.ensures
-          ∙ ap (λ (x : Numbered). set (table_figures row table) x.number (Some x.leg)) (read_same more (line_leg line) next read.1 read.0);
+          ∙ ap (λ (x : Numbered). set (table_figures row table) x.number (Some x.leg)) (read_same more (line_leg row line) next (g.K.CostKind.narrow line.cost) c.in-Some.ensures);
     }

@@ -1,4 +1,4 @@
-use Rattle.std.proofs.Common.{ℕ, length, ap, ◌∙◌, subst, arith}
+use Rattle.std.proofs.Common.{ℕ, length, ap, ◌∙◌, subst, arith, rules}
 use Rattle.sheets.specs.Begun.{tallied}
 use Rattle.sheet_texts.specs.Faults.{last_line}
 use Rattle.sheet_reader.specs.Reading.{limits_of, Whole}
@@ -12,8 +12,8 @@ place_legs-requires g c =
     let w = c.requires.checked in (
       w.sheet.legs,
       last_line k.places w.sheet,
-      lines_next k (limits_of c.args.bounds) c.args.text.now (tallied c.args.tally.now) g.K.CostKind.lawful.few_places w (length c.clear_table.new.table) c.past.result.now
-          (omega (arith, c.requires.size.0)) c.past.ensures,
+      lines_next k (limits_of c.args.bounds) c.args.text.now (tallied c.args.tally.now) g.K.CostKind.lawful.few_places w (length c.fill.new.self) c.past.result.now
+          (omega (arith, c.requires.size)) c.past.ensures,
     )
 
 pub returns : goal.returns
@@ -24,8 +24,9 @@ returns g c =
     let b = tallied c.args.tally.now in
     let table = c.args.table.now in
     let few = g.K.CostKind.lawful.few_places in
-    let w = subst (λ (size : ℕ). Whole k (record { ports = c.args.bounds.ports; numbers = size }) text b) c.requires.size.0 c.requires.checked in
+    let w = subst (λ (size : ℕ). Whole k (record { ports = c.args.bounds.ports; numbers = size }) text b) c.requires.size c.requires.checked in
     let legs = w.sheet.legs in
-    let next = lines_next k (record { ports = c.args.bounds.ports; numbers = length table }) text b few w (length c.clear_table.new.table) c.past.result.now (omega arith) c.past.ensures in
-    let filled = c.place_legs.ensures legs (last_line k.places w.sheet) next ∙ ap (λ t. placed legs (table_figures row t)) c.clear_table.ensures ∙ ap (placed legs) (blank_figures row (length table)) in
-    read_all k row c.args.bounds.ports text table few c.requires.size.1 c.place_legs.new.table b w filled (omega arith)
+    let next = lines_next k (record { ports = c.args.bounds.ports; numbers = length table }) text b few w (length c.fill.new.self) c.past.result.now (omega arith) c.past.ensures in
+    let blank = c.fill.ensures.after (search rules) in
+    let filled = c.place_legs.ensures legs (last_line k.places w.sheet) next ∙ ap (λ t. placed legs (table_figures row t)) blank ∙ ap (placed legs) (blank_figures row (length table)) in
+    read_all k row c.args.bounds.ports text table few (omega (arith, c.requires.size, c.args.bounds.few)) c.place_legs.new.table b w filled (omega arith)
