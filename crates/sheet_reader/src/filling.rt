@@ -40,7 +40,7 @@ fn place_leg<'a, K: SheetKind>(text: &'a [u8], table: &mut [Option<Leg<K>>]) -> 
         return text;
     };
     put(table, line.number as usize, Some(leg_of(line)));
-    past(text, leg_length(K::place_count()))
+    past(text, leg_length::<K>())
 }
 
 // Puts the legs of so many lines, which the text begins with, under their numbers.
