@@ -2,7 +2,7 @@
 use Rattle.std.proofs.Common.{◌≡◌, ℕ, zero, suc, ◌+◌, ◌^◌, ◌<◌, ◌≤◌, length, get_or, take, ℤ, pos, negsuc, ◌+ℤ◌, nat_abs, refl, sym, ap, ◌∙◌, ⊎_elim, arith, w64, SFits, to_z, of_z}
 use Rattle.std.proofs.lemmas.Int.{ints, to_z-of_z}
 use Rattle.std.proofs.lemmas.Bool.{cases_lt}
-use Rattle.std.proofs.lemmas.List.{get_or_past, get_or-take}
+use Rattle.std.proofs.lemmas.List.{get_or_past, get_or_default, get_or-take, same_lists}
 use Rattle.limits.specs.Numbers.{most_places}
 use Rattle.rows.specs.Rows.{Row, sum, place, Narrow}
 use Rattle.rows.proofs.Group.{by_places}
@@ -46,6 +46,14 @@ place_at p (suc zero) few = refl
 place_at p (suc (suc zero)) few = refl
 place_at p (suc (suc (suc zero))) few = refl
 place_at p (suc (suc (suc (suc i)))) few = sym (get_or_past p.numbers (suc (suc (suc (suc i)))) (pos 0) (omega arith))
+
+-- places are the same numbers where their rows are the same
+pub same_numbers : (p q : Places) → length p.numbers ≡ most_places → length q.numbers ≡ most_places → row_of p ≡ row_of q → p.numbers ≡ q.numbers
+same_numbers p q four four' same =
+    same_lists p.numbers q.numbers (omega arith)
+    (λ k d below.
+    get_or_default p.numbers k d (pos 0) below ∙ sym (place_at p k (omega arith)) ∙ ap (λ (r : Row). place r k) same ∙ place_at q k (omega arith)
+    ∙ get_or_default q.numbers k (pos 0) d (omega arith))
 
 -- the number read at an index of the first n
 pub place_read : (p : Places) (n i : ℕ) → SFits w64 (get_or (take n p.numbers) i (pos 0)) → length p.numbers ≤ most_places → i < n
