@@ -2,7 +2,7 @@ use Rattle.std.proofs.Common.{◌≡◌, ℕ, drop, set, Some, sym, ap, ◌∙�
 use Rattle.std.proofs.lemmas.List.{map-set}
 use Rattle.limits.specs.Numbers.{most_ports}
 use Rattle.charts.specs.Meaning.{Figures, Allowed}
-use Rattle.sheets.specs.Form.{Numbered, leg_length}
+use Rattle.sheets.specs.Form.{Numbered}
 use Rattle.sheet_texts.specs.Lines.{line_leg}
 use Rattle.sheet_reader.specs.Tables.{place_figures, table_figures}
 use Rattle.sheet_reader.proofs.Placing.{first_line, read_same}
@@ -25,7 +25,7 @@ returns g c =
     let table = c.args.table.now in
     let line = c.in-Some.line in
     record {
-      rest = λ l more next. c.past.ensures ∙ ap (λ (n : ℕ). drop n text) (c.leg_length.ensures ∙ ap leg_length c.place_count.ensures) ∙ (first_line next).rest;
+      rest = λ l more next. c.past.ensures ∙ ap (λ (n : ℕ). drop n text) c.leg_length.ensures ∙ (first_line next).rest;
       table = λ l more next.
           ap (table_figures row) c.put.ensures
           ∙ map-set (place_figures row) table line.number (Some c.leg_of.result)
