@@ -31,7 +31,7 @@ fn place_leg<'a, K: SheetKind>(text: &'a [u8], table: &mut [Option<Leg<K>>]) -> 
 {
     let line = first_leg::<K>(text).unwrap();
     put(table, line.number as usize, Some(leg_of(line)));
-    &text[leg_length(K::place_count())..]
+    &text[leg_length::<K>()..]
 }
 
 // Puts the legs of so many lines, which the text begins with, under their numbers.

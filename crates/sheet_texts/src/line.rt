@@ -7,7 +7,7 @@ ghost use Rattle.sheets.specs.Form.{line_feed, Numbered};
 ghost use Rattle.sheet_texts.specs.Columns.{ShowsPlaces, HeadColumns, LegColumns, EndColumns};
 ghost use Rattle.sheet_texts.specs.Lines.{line_leg, Replaced, ReadPlaces};
 
-use columns::{read_signed, read_unsigned};
+use columns::read_number;
 use sheets::Places;
 use sheets::form::{COST_WIDTH, HOURS_WIDTH, NUMBER_WIDTH, SUMMED_COST_WIDTH, SUMMED_HOURS_WIDTH};
 
@@ -38,42 +38,12 @@ fn ends_line(columns: &[u8], at: usize) -> bool
 }
 
 // The places with another number in place i.
-fn with_place(places: Places, i: usize, z: i64) -> Places
+fn with_place(mut places: Places, i: usize, z: i64) -> Places
     requires { i < most_places }
     ensures { Replaced (row_of places) i z (row_of result) }
 {
-    let Places {
-        first,
-        second,
-        third,
-        fourth,
-    } = places;
-    match i {
-        0 => Places {
-            first: z,
-            second,
-            third,
-            fourth,
-        },
-        1 => Places {
-            first,
-            second: z,
-            third,
-            fourth,
-        },
-        2 => Places {
-            first,
-            second,
-            third: z,
-            fourth,
-        },
-        _ => Places {
-            first,
-            second,
-            third,
-            fourth: z,
-        },
-    }
+    places.numbers[i] = z;
+    places
 }
 
 // So many places of a cost, each in a column, and the next place.
@@ -84,7 +54,7 @@ fn read_places(columns: &[u8], at: usize, width: usize, count: usize) -> Option<
     let mut places = Places::ZERO;
     let mut next = at;
     for i in 0..count {
-        let (z, after) = read_signed(columns, next, width)?;
+        let (z, after) = read_number(columns, next, width)?;
         places = with_place(places, i, z);
         next = after;
     }
@@ -95,8 +65,8 @@ fn read_places(columns: &[u8], at: usize, width: usize, count: usize) -> Option<
 pub fn read_head(columns: &[u8], places: usize) -> Option<u64>
     ensures { MatchOption result ((p : ℕ) → HeadColumns places columns.now p → ⊥) (λ p. HeadColumns places columns.now p) }
 {
-    let (ports, at) = read_unsigned(columns, 0, NUMBER_WIDTH)?;
-    let (shown, at) = read_unsigned(columns, at, NUMBER_WIDTH)?;
+    let (ports, at) = read_number(columns, 0, NUMBER_WIDTH)?;
+    let (shown, at) = read_number::<u64>(columns, at, NUMBER_WIDTH)?;
     if shown != places as u64 {
         return None;
     }
@@ -108,10 +78,10 @@ pub fn read_leg(columns: &[u8], places: usize) -> Option<LegLine<Places>>
     requires { places ≤ most_places }
     ensures { MatchOption result ((l : Numbered) → LegColumns places columns.now l → ⊥) (λ l. LegColumns places columns.now (line_leg row_of l) × Narrow places (row_of l.cost)) }
 {
-    let (number, at) = read_unsigned(columns, 0, NUMBER_WIDTH)?;
-    let (from, at) = read_unsigned(columns, at, NUMBER_WIDTH)?;
-    let (to, at) = read_unsigned(columns, at, NUMBER_WIDTH)?;
-    let (hours, at) = read_unsigned(columns, at, HOURS_WIDTH)?;
+    let (number, at) = read_number(columns, 0, NUMBER_WIDTH)?;
+    let (from, at) = read_number(columns, at, NUMBER_WIDTH)?;
+    let (to, at) = read_number(columns, at, NUMBER_WIDTH)?;
+    let (hours, at) = read_number(columns, at, HOURS_WIDTH)?;
     let (cost, at) = read_places(columns, at, COST_WIDTH, places)?;
     ends_line(columns, at).then_some(LegLine {
         number,
@@ -127,8 +97,8 @@ pub fn read_end(columns: &[u8], places: usize) -> Option<EndLine>
     requires { places ≤ most_places }
     ensures { MatchOption result ((legs hours : ℕ) (c : Row) → EndColumns places columns.now legs hours c → ⊥) (λ e. EndColumns places columns.now e.legs e.hours (row_of e.cost) × Narrow places (row_of e.cost)) }
 {
-    let (legs, at) = read_unsigned(columns, 0, NUMBER_WIDTH)?;
-    let (hours, at) = read_unsigned(columns, at, SUMMED_HOURS_WIDTH)?;
+    let (legs, at) = read_number(columns, 0, NUMBER_WIDTH)?;
+    let (hours, at) = read_number(columns, at, SUMMED_HOURS_WIDTH)?;
     let (cost, at) = read_places(columns, at, SUMMED_COST_WIDTH, places)?;
     ends_line(columns, at).then_some(EndLine { legs, hours, cost })
 }

@@ -54,10 +54,7 @@ impl Draws {
             to: self.port(ports),
             hours: self.hours(),
             cost: K::made_of(Places {
-                first,
-                second,
-                third: 0,
-                fourth: 0,
+                numbers: [first, second, 0, 0],
             }),
         }
     }

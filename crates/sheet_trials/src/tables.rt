@@ -1,7 +1,6 @@
 // Tables of legs, filled, compared and written as sheets.
 use charts::Leg;
 use sheets::form::HEAD_LENGTH;
-use sheets::kind::places_of;
 use sheets::{Form, NumberedLeg, SheetKind, write_sheet};
 use std::alloc::{AllocError, Global};
 
@@ -24,7 +23,7 @@ pub fn filled<K: SheetKind>(
 }
 
 fn is_same_leg<K: SheetKind>(a: Leg<K>, b: Leg<K>) -> bool {
-    a.from == b.from && a.to == b.to && a.hours == b.hours && places_of(a.cost) == places_of(b.cost)
+    a.from == b.from && a.to == b.to && a.hours == b.hours && a.cost.places() == b.cost.places()
 }
 
 fn is_same_place<K: SheetKind>(a: Option<Leg<K>>, b: Option<Leg<K>>) -> bool {

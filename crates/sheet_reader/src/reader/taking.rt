@@ -2,11 +2,10 @@
 ghost use Rattle.std.specs.Prelude.{◌≡◌, ◌≤◌, ◌∷◌, None, MatchOption, Decides};
 ghost use Rattle.limits.specs.Numbers.{most_cost};
 ghost use Rattle.limits.specs.Refusals.{answer};
-ghost use Rattle.charts.specs.Limits.{port_count_refusal, price_refusal, leg_refusal};
 ghost use Rattle.sheets.specs.Places.{row_of, largest};
 ghost use Rattle.sheets.specs.declared.form.Form.TheVariants.{Chart as ChartForm};
 ghost use Rattle.sheets.specs.declared.tally.Tally.{Tally};
-ghost use Rattle.sheets.specs.Begun.{tallied, with_leg, number_refusal_below};
+ghost use Rattle.sheets.specs.Begun.{tallied, with_leg};
 ghost use Rattle.sheets.specs.Form.{form_letter, leg_letter, end_letter};
 ghost use Rattle.sheet_texts.specs.Faults.{Limits, next_refusal};
 ghost use Rattle.sheet_texts.specs.Lines.{line_leg};
@@ -16,68 +15,20 @@ ghost use Rattle.sheet_reader.specs.Reading.{HasEnded, limits_of, TakesLine, Tak
 use super::Reader;
 use crate::fault::Bounds;
 use crate::line::read_line;
-use charts::limited::{refuse_cost, refuse_port_count};
+use charts::limited::{check_figures, check_port_count};
 use costs::CostKind;
 use limits::refusal::Refusal;
-use limits::{MOST_HOURS, MOST_PORTS};
+use limits::MOST_PORTS;
 use sheet_texts::line::{EndLine, LegLine, read_end, read_head};
 use sheets::form::{HEAD_LENGTH, end_length, leg_length};
-use sheets::kind::places_of;
 use sheets::{Form, Places, SheetKind, Tally};
 use std::mem;
-
-fn check_price<K: CostKind>(hours: u64, cost: K) -> Result<(), Refusal>
-    ensures { result ≡ answer (price_refusal K.CostKind.kind hours (K.CostKind.row cost)) tt }
-{
-    if hours <= MOST_HOURS as u64 {
-        match refuse_cost::<K>(cost) {
-            Some(refusal) => Err(refusal),
-            None => Ok(()),
-        }
-    } else {
-        Err(Refusal::Hours)
-    }
-}
-
-fn check_figures<K: CostKind>(
-    ports: usize,
-    from: u64,
-    to: u64,
-    hours: u64,
-    cost: K,
-) -> Result<(), Refusal>
-    ensures { result ≡ answer (leg_refusal K.CostKind.kind ports (record { from = from; to = to; hours = hours; cost = K.CostKind.row cost })) tt }
-{
-    if from < ports as u64 && to < ports as u64 {
-        check_price::<K>(hours, cost)
-    } else {
-        Err(Refusal::Port)
-    }
-}
-
-fn check_number(tally: &Tally, most: usize, number: usize) -> Result<(), Refusal>
-    ensures { result ≡ answer (number_refusal_below most (tallied tally.now) number) tt }
-{
-    match tally.refuse_number(most, number) {
-        Some(refusal) => Err(refusal),
-        None => Ok(()),
-    }
-}
-
-fn check_port_count(most: usize, ports: usize) -> Result<(), Refusal>
-    ensures { result ≡ answer (port_count_refusal most ports) tt }
-{
-    match refuse_port_count(most, ports) {
-        Some(refusal) => Err(refusal),
-        None => Ok(()),
-    }
-}
 
 // Whether a leg line may come next.
 fn check_line<K: SheetKind>(tally: &Tally, bounds: Bounds, line: LegLine<K>) -> Result<(), Refusal>
     ensures { result ≡ answer (next_refusal K.CostKind.kind bounds.numbers (tallied tally.now) (line_leg K.CostKind.row line)) tt }
 {
-    check_number(tally, bounds.numbers, line.number as usize)?;
+    tally.check_number(bounds.numbers, line.number as usize)?;
     check_figures(tally.ports, line.from, line.to, line.hours, line.cost)
 }
 
@@ -87,12 +38,7 @@ fn count_line<K: SheetKind>(tally: &mut Tally, bounds: Bounds, line: LegLine<K>)
     ensures tally { tallied tally.new ≡ with_leg K.CostKind.kind.places (tallied tally.old) (line_leg K.CostKind.row line) }
     ensures small { largest (K.CostKind.row line.cost) ≤ most_cost }
 {
-    tally.count(
-        line.number as usize,
-        line.hours as u32,
-        places_of(line.cost),
-        K::place_count(),
-    );
+    tally.count(line.number as usize, line.hours as u32, line.cost);
 }
 
 // Whether two costs are equal, place by place.
@@ -129,7 +75,7 @@ fn take_leg<K: SheetKind>(
     let line: LegLine<K> = read_line(columns).ok_or(Refusal::Malformed)?;
     check_line(tally, bounds, line)?;
     count_line(tally, bounds, line);
-    Ok(leg_length(K::place_count()))
+    Ok(leg_length::<K>())
 }
 
 // Whether an end line of these columns has the sums of the lines before it.
@@ -180,7 +126,7 @@ impl Reader {
             (Reader::Legs(tally), 'E') => {
                 check_end::<K>(tally, columns)?;
                 self.end();
-                Ok(end_length(K::place_count()))
+                Ok(end_length::<K>())
             }
             _ => Err(Refusal::Malformed),
         }

@@ -3,7 +3,7 @@ use Rattle.std.proofs.lemmas.Bool.{some_since}
 use Rattle.std.proofs.lemmas.List.{map-set, take_rest}
 use Rattle.limits.specs.Numbers.{most_ports}
 use Rattle.charts.specs.Meaning.{Figures, Allowed}
-use Rattle.sheets.specs.Form.{Numbered, leg_length}
+use Rattle.sheets.specs.Form.{Numbered}
 use Rattle.sheet_texts.specs.Lines.{line_leg}
 use Rattle.sheet_reader.specs.Tables.{place_figures, table_figures}
 use Rattle.sheet_reader.proofs.Placing.{first_line, read_same}
@@ -28,7 +28,7 @@ returns g c =
     let line = c.unwrap-line.result in
     let read = rw c.unwrap-line.ensures at c.first_leg.ensures in
     record {
-      rest = λ l more next. take_rest text c.leg_length.result ∙ ap (λ (n : ℕ). drop n text) (c.leg_length.ensures ∙ ap leg_length c.place_count.ensures) ∙ (first_line next).rest;
+      rest = λ l more next. take_rest text c.leg_length.result ∙ ap (λ (n : ℕ). drop n text) c.leg_length.ensures ∙ (first_line next).rest;
       table = λ l more next.
           ap (table_figures row) c.put.ensures
           ∙ map-set (place_figures row) table line.number (Some c.leg_of.result)

@@ -22,6 +22,6 @@ returns g c =
     let k = g.K.CostKind.kind in
     let line = c.in_ok-line.line in
     let read = rw c.in_ok-line.ensures.ok_part at c.read_line.ensures in
-    rw (c.leg_length.ensures, c.place_count.ensures)
+    rw c.leg_length.ensures
     (leg_line_taken k (limits_of c.args.bounds) c.args.columns.now c.args.tally.now _ (line_leg g.K.CostKind.row line) c.args.bounds.few read (g.K.CostKind.narrow line.cost) c.count_line.ensures.small
     (none_refused _ _ _ c.in_ok-check_line.ensures) c.count_line.ensures.tally)
