@@ -1,5 +1,5 @@
 -- What an edit of a written chart leaves. Assumes nothing.
-use Rattle.std.proofs.Common.{◌≡◌, ℕ, ◌<◌, ◌≤◌, Bool, true, false, cond, ltb, ◌⊎◌, List, length, get_or, set, Some, None, Option, Result, sym, refl, ap, ◌∙◌, inl, inr, arith, length-take, get_or-take, get_or-set_same}
+use Rattle.std.proofs.Common.{◌≡◌, ℕ, ◌<◌, ◌≤◌, Bool, true, false, cond, ltb, ◌⊎◌, List, length, get_or, set, Some, None, Ok, Option, Result, sym, refl, ap, ◌∙◌, inl, inr, arith, length-take, get_or-take, get_or-set_same}
 use lib.ListN.{get_or-eq_default}
 use Rattle.std.proofs.lemmas.Bool.{ltb-true, cases_lt}
 use Rattle.limits.specs.Numbers.{most_legs}
@@ -10,7 +10,8 @@ use Rattle.rows.specs.Rows.{Row}
 use Rattle.rows.specs.Kinds.{Kind}
 use Rattle.charts.specs.Meaning.{shown_at, leg, over}
 use Rattle.charts.specs.Reading.{figures_of}
-use Rattle.charts.specs.Written.{places_read, in_use, place_shown, written, enter_refusal}
+use Rattle.charts.specs.Limits.{price_refusal}
+use Rattle.charts.specs.Written.{places_read, in_use, leg_in_use, repriced, place_shown, written, enter_refusal, reprice_refusal}
 use Rattle.charts.specs.Edits.{Edited}
 use Rattle.charts.specs.declared.leg.Leg.{Leg}
 use Rattle.charts.proofs.Tables.{shown_place, written_set}
@@ -44,6 +45,21 @@ module _ {K : Type 0} where
       by_order : (n < length (places_read table)) ⊎ (length (places_read table) ≤ n) → n < most_legs
       by_order (inl inside) = number_below table n inside
       by_order (inr past) = refused_no (ap (λ (o : Option (Leg K)). cond (in_use o) r (Some Number)) (sym (get_or-eq_default (places_read table) None past)) ∙ e)
+
+  in_use_leg : (o : Option (Leg K)) (l : Leg K) → leg_in_use o ≡ Ok l → o ≡ Some l
+  in_use_leg None l e = let z : ◌≡◌ {A = ℕ} 0 1 = cc in absurd (omega arith)
+  in_use_leg (Some m) l e = cc
+
+  -- a leg in use that is written with other hours and another cost is repriced
+  pub repriced_table : (k : Kind) (row : K → Row) (table : List (Option (Leg K))) (n h : ℕ) (c : K) (l : Leg K) → leg_in_use (get_or (places_read table) n None) ≡ Ok l
+      → price_refusal k h (row c) ≡ None
+      → set table n (Some (record { from = l.from; to = l.to; hours = h; cost = c }))
+      ≡ if_refused (reprice_refusal k row (places_read table) n h c) table (set table n (repriced h c (get_or table n None)))
+  repriced_table k row table n h c l used priced =
+      let there : get_or (places_read table) n None ≡ Some l = in_use_leg _ l used in
+      let below : n < most_legs = used_first table n None (ap (λ (o : Option (Leg K)). cond (in_use o) None (Some Number)) there) in
+      let whole : get_or table n None ≡ Some l = sym (get_or-take most_legs table n None below) ∙ there in
+      sym (λ i. if_refused (cond (in_use (there i)) (priced i) (Some Number)) table (set table n (repriced h c (whole i))))
 
   -- a leg that is entered is what the chart then shows
   pub entered_shown : (k : Kind) (row : K → Row) (p n : ℕ) (l : Leg K) (before after : List (Option (Leg K))) → enter_refusal k row p (places_read before) n l ≡ None

@@ -27,10 +27,6 @@ module _ (k : Kind) (becomes : Figures → Option Figures) where
   at_entry : (m : Meaning) (n : ℕ) → shown_at (layered k becomes true m) n ≡ entry_becomes k becomes m.ports (shown_at m n)
   at_entry m n = get_or-map (entry_becomes k becomes m.ports) m.entries n blank
 
-  pub layered_ports : (a : Bool) (m : Meaning) → true ≡ a → (layered k becomes a m).ports ≡ m.ports
-  layered_ports true m e = refl
-  layered_ports false m e = clash (sym e) refl
-
   pub layered_count : (a : Bool) (m : Meaning) → true ≡ a → length (layered k becomes a m).entries ≡ length m.entries
   layered_count true m e = length-map m.entries (entry_becomes k becomes m.ports)
   layered_count false m e = clash (sym e) refl
@@ -43,13 +39,3 @@ module _ (k : Kind) (becomes : Figures → Option Figures) where
     legs_allowed = λ n f q. becomes_allowed m.ports (shown_at m n) f (sym (at_entry m n) ∙ q);
   }
   layered_within false m e w = clash (sym e) refl
-
-  -- the entry above, from the one beneath
-  pub layered_entry : (a : Bool) (m : Meaning) (n : ℕ) (s r : Shown) → true ≡ a → s ≡ shown_at m n → r ≡ entry_becomes k becomes m.ports s
-      → r ≡ shown_at (layered k becomes a m) n
-  layered_entry true m n s r e beneath above = above ∙ ap (entry_becomes k becomes m.ports) beneath ∙ sym (at_entry m n)
-  layered_entry false m n s r e beneath above = clash (sym e) refl
-
-  -- the entry of a leg that is passed on
-  pub passed_entry : (p q : ℕ) (f : Figures) (o : Option Figures) (r : Shown) → q ≡ p → o ≡ becomes f → r ≡ passed_shown k q o → r ≡ entry_becomes k becomes p (leg f)
-  passed_entry p q f o r same passed shown = shown ∙ (λ i. passed_shown k (same i) (passed i))

@@ -2,6 +2,5 @@ pub mod Allowed
 pub mod Tables
 pub mod Layers
 pub mod ShortStays
-pub mod Hires
 pub mod Grids
 pub mod Edits

@@ -1,6 +1,7 @@
 pub mod Meaning
 pub mod Limits
 pub mod Reading
+pub mod Texts
 pub mod Written
 pub mod Layers
 pub mod Stays

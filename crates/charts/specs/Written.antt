@@ -1,5 +1,5 @@
 -- What a table of legs shows, and why an edit of it is refused. Assumes nothing.
-use Rattle.std.specs.Prelude.{ℕ, Bool, true, false, cond, List, map, length, take, Some, None, Option, nat_le, nat_lt, slice_index_or}
+use Rattle.std.specs.Prelude.{ℕ, Bool, true, false, cond, List, map, length, take, Some, None, Ok, Err, Option, Result, nat_le, nat_lt, slice_index_or}
 use Rattle.limits.specs.Numbers.{most_ports, most_legs}
 use Rattle.limits.specs.Refusals.{or_refusal}
 use Rattle.limits.specs.declared.refusal.Refusal.{Refusal}
@@ -23,6 +23,11 @@ places_read table = take most_legs table
 abbrev pub in_use : {K : Type 0} → Option (Leg K) → Bool
 in_use None = false
 in_use (Some l) = true
+
+-- the leg that stands there, and else the refusal of a number not in use
+abbrev pub leg_in_use : {K : Type 0} → Option (Leg K) → Result (Leg K) Refusal
+leg_in_use None = Err Number
+leg_in_use (Some l) = Ok l
 
 -- the same ports, with other hours and another cost
 abbrev pub repriced : {K : Type 0} → ℕ → K → Option (Leg K) → Option (Leg K)

@@ -1,6 +1,6 @@
 // A grid chart: hours between each two ports, at one money cost for all legs.
-ghost use Rattle.std.specs.Prelude.{◌≡◌, ◌+◌, ◌/◌, ◌%◌, ◌<◌, [], take, slice_index};
-ghost use Rattle.limits.specs.Numbers.{most_legs};
+ghost use Rattle.std.specs.Prelude.{◌≡◌, ◌/◌, ◌%◌, ◌<◌, ◌≤◌, [], take, slice_index};
+ghost use Rattle.limits.specs.Numbers.{most_grid_ports, most_legs};
 ghost use Rattle.limits.specs.Refusals.{if_refused, answer};
 ghost use Rattle.rows.specs.Orders.{by_dollars};
 ghost use Rattle.rows.specs.Rows.{one_place};
@@ -8,17 +8,18 @@ ghost use Rattle.charts.specs.Grid.{grid, grid_refusal};
 
 use super::chart::Chart;
 use super::leg::{Entry, Leg};
-use super::limited::{limited_entry, refuse_cost, refuse_port_count};
+use super::limited::{check_cost, check_port_count, limited_entry};
 use costs::{CostKind, Money};
 use limits::refusal::Refusal;
 use limits::{MOST_GRID_PORTS, MOST_LEGS};
 
 #[derive(Clone, Copy)]
 pub struct GridChart<'a> {
-    // the last port: there are from 1 to 64
-    last: u8,
+    ports: usize,
     hours: &'a [u32],
     cost: Money,
+    ghost some: { 1 ≤ ports },
+    ghost few: { ports ≤ most_grid_ports },
 }
 
 // The hours under a number, and none past the end.
@@ -41,44 +42,29 @@ fn ends(ports: usize, n: usize) -> (u16, u16)
     ((n / ports) as u16, (n % ports) as u16)
 }
 
-fn refuse_grid(ports: usize, hours: &[u32], cost: Money) -> Option<Refusal>
-    ensures { result ≡ grid_refusal by_dollars ports hours.now (one_place cost.dollars) }
-{
-    if let Some(refusal) = refuse_port_count(MOST_GRID_PORTS, ports) {
-        return Some(refusal);
-    }
-    if hours.len() != ports * ports {
-        return Some(Refusal::Length);
-    }
-    refuse_cost(cost)
-}
-
 impl<'a> GridChart<'a> {
     // Whether the hours open as a grid of so many ports: the entries are not looked at.
     pub fn check(ports: usize, hours: &[u32], cost: Money) -> Result<(), Refusal>
         ensures { result ≡ answer (grid_refusal by_dollars ports hours.now (one_place cost.dollars)) tt }
     {
-        match refuse_grid(ports, hours, cost) {
-            Some(refusal) => Err(refusal),
-            None => Ok(()),
+        check_port_count(MOST_GRID_PORTS, ports)?;
+        if hours.len() != ports * ports {
+            return Err(Refusal::Length);
         }
+        check_cost(cost)
     }
 
     // The chart over all hours; where the check refuses, a chart of one port over none of them.
     pub fn open(ports: usize, hours: &'a [u32], cost: Money) -> Self
-        ensures ports { result.last + 1 ≡ if_refused (grid_refusal by_dollars ports hours.now (one_place cost.dollars)) 1 ports }
+        ensures ports { result.ports ≡ if_refused (grid_refusal by_dollars ports hours.now (one_place cost.dollars)) 1 ports }
         ensures hours { result.hours.now ≡ if_refused (grid_refusal by_dollars ports hours.now (one_place cost.dollars)) [] hours.now }
         ensures cost { result.cost ≡ cost }
     {
-        match refuse_grid(ports, hours, cost) {
-            Some(_) => GridChart {
-                last: 0,
+        match Self::check(ports, hours, cost) {
+            Ok(()) => GridChart { ports, hours, cost },
+            Err(_) => GridChart {
+                ports: 1,
                 hours: &hours[0..0],
-                cost,
-            },
-            None => GridChart {
-                last: (ports - 1) as u8,
-                hours,
                 cost,
             },
         }
@@ -88,10 +74,10 @@ impl<'a> GridChart<'a> {
 impl<'a> Chart for GridChart<'a> {
     type Cost = Money;
 
-    ghost meaning = { λ c. grid by_dollars (c.last + 1) (one_place c.cost.dollars) c.hours.now };
+    ghost meaning = { λ c. grid by_dollars c.ports (one_place c.cost.dollars) c.hours.now };
 
     fn ports(&self) -> usize {
-        self.last as usize + 1
+        self.ports
     }
 
     fn count(&self) -> usize {
@@ -103,10 +89,9 @@ impl<'a> Chart for GridChart<'a> {
         if hours == 0 {
             return Entry::Blank;
         }
-        let ports = self.last as usize + 1;
-        let (from, to) = ends(ports, n);
+        let (from, to) = ends(self.ports, n);
         limited_entry(
-            ports,
+            self.ports,
             Leg {
                 from,
                 to,

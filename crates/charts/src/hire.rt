@@ -10,7 +10,7 @@ ghost use Rattle.charts.specs.Limits.{cost_refusal};
 
 use super::layer::Layer;
 use super::leg::Leg;
-use super::limited::refuse_cost;
+use super::limited::check_cost;
 use costs::CostKind;
 use limits::MOST_COST;
 use limits::refusal::Refusal;
@@ -25,10 +25,7 @@ impl<K: CostKind> Hire<K> {
     pub fn check(cost: K) -> Result<(), Refusal>
         ensures { result ≡ answer (cost_refusal K.CostKind.kind (K.CostKind.row cost)) tt }
     {
-        match refuse_cost(cost) {
-            Some(refusal) => Err(refusal),
-            None => Ok(()),
-        }
+        check_cost(cost)
     }
 
     // The hire; under one that the check refuses a chart shows nothing.
@@ -64,10 +61,8 @@ impl<K: CostKind> Layer<K> for Hire<K> {
     {
         let hire = hire_of(self.cost, leg.hours);
         Some(Leg {
-            from: leg.from,
-            to: leg.to,
-            hours: leg.hours,
             cost: leg.cost.plus(hire),
+            ..leg
         })
     }
 }

@@ -20,12 +20,7 @@ pub use table::Stays;
 fn are_short(stays: &[u32]) -> bool
     ensures { result ≡ all_short stays.now }
 {
-    for stay in stays {
-        if *stay > MOST_HOURS {
-            return false;
-        }
-    }
-    true
+    stays.iter().all(|stay| *stay <= MOST_HOURS)
 }
 
 impl Stays {
@@ -74,10 +69,8 @@ impl<K: CostKind> Layer<K> for Stays {
     {
         let stay = stay_after(self, leg);
         Some(Leg {
-            from: leg.from,
-            to: leg.to,
             hours: leg.hours + stay,
-            cost: leg.cost,
+            ..leg
         })
     }
 }

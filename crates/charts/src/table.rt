@@ -3,43 +3,26 @@ ghost use Rattle.std.specs.Prelude.{◌≡◌, length, Some, None, slice_index_o
 ghost use Rattle.limits.specs.Refusals.{if_refused, answer};
 ghost use Rattle.charts.specs.Meaning.{shown_at};
 ghost use Rattle.charts.specs.Reading.{entry_shown, figures_of};
-ghost use Rattle.charts.specs.Written.{table_refusal, places_read, written, enter_refusal, withdraw_refusal, reprice_refusal, repriced};
+ghost use Rattle.charts.specs.Written.{places_read, written, leg_in_use, enter_refusal, withdraw_refusal, reprice_refusal, repriced};
 
 use super::leg::{Entry, Leg};
-use super::limited::{limited_entry, refuse_leg, refuse_port_count, refuse_price};
+use super::limited::{check_leg, check_price, limited_entry};
 use costs::CostKind;
+use limits::MOST_LEGS;
 use limits::refusal::Refusal;
-use limits::{MOST_LEGS, MOST_PORTS};
-
-pub fn refuse_table<K>(ports: usize, table: &[Option<Leg<K>>]) -> Option<Refusal>
-    ensures { result ≡ table_refusal ports table.now }
-{
-    match refuse_port_count(MOST_PORTS, ports) {
-        Some(refusal) => Some(refusal),
-        None => if table.len() <= MOST_LEGS {
-            None
-        } else {
-            Some(Refusal::Length)
-        },
-    }
-}
 
 // As many places of the table as a chart has entries at most.
 pub fn read_part<K>(table: &[Option<Leg<K>>]) -> &[Option<Leg<K>>]
     ensures { result.now ≡ places_read table.now }
 {
-    if table.len() > MOST_LEGS {
-        &table[0..MOST_LEGS]
-    } else {
-        table
-    }
+    &table[0..MOST_LEGS.min(table.len())]
 }
 
 // What stands in a place; nothing past the end.
 fn place<K: CostKind>(places: &[Option<Leg<K>>], n: usize) -> Option<Leg<K>>
     ensures { result ≡ slice_index_or places.now n None }
 {
-    if n < places.len() { places[n] } else { None }
+    places.get(n).copied().flatten()
 }
 
 // Writes one place; past the end there is none.
@@ -61,20 +44,20 @@ pub fn read<K: CostKind>(ports: usize, table: &[Option<Leg<K>>], n: usize) -> En
     }
 }
 
-fn refuse_enter<K: CostKind>(
+fn check_enter<K: CostKind>(
     ports: usize,
     places: &[Option<Leg<K>>],
     n: usize,
     leg: Leg<K>,
-) -> Option<Refusal>
-    ensures { result ≡ enter_refusal K.CostKind.kind K.CostKind.row ports places.now n leg }
+) -> Result<(), Refusal>
+    ensures { result ≡ answer (enter_refusal K.CostKind.kind K.CostKind.row ports places.now n leg) tt }
 {
     if n >= places.len() {
-        return Some(Refusal::Number);
+        return Err(Refusal::Number);
     }
-    match place(places, n) {
-        Some(_) => Some(Refusal::NumberTaken),
-        None => refuse_leg(ports, leg),
+    match places[n] {
+        Some(_) => Err(Refusal::NumberTaken),
+        None => check_leg(ports, leg),
     }
 }
 
@@ -88,22 +71,16 @@ pub fn enter_at<K: CostKind>(
     ensures answer { result ≡ answer (enter_refusal K.CostKind.kind K.CostKind.row ports (places_read table.old) n leg) tt }
     ensures table { table.new ≡ if_refused (enter_refusal K.CostKind.kind K.CostKind.row ports (places_read table.old) n leg) table.old (slice_set table.old n (Some leg)) }
 {
-    match refuse_enter(ports, read_part(table), n, leg) {
-        Some(refusal) => Err(refusal),
-        None => {
-            put(table, n, Some(leg));
-            Ok(())
-        }
-    }
+    check_enter(ports, read_part(table), n, leg)?;
+    put(table, n, Some(leg));
+    Ok(())
 }
 
-fn refuse_withdraw<K: CostKind>(places: &[Option<Leg<K>>], n: usize) -> Option<Refusal>
-    ensures { result ≡ withdraw_refusal places.now n }
+// The leg under a number in use.
+fn used_leg<K: CostKind>(places: &[Option<Leg<K>>], n: usize) -> Result<Leg<K>, Refusal>
+    ensures { result ≡ leg_in_use (slice_index_or places.now n None) }
 {
-    match place(places, n) {
-        Some(_) => None,
-        None => Some(Refusal::Number),
-    }
+    place(places, n).ok_or(Refusal::Number)
 }
 
 // Blanks a number in use.
@@ -111,42 +88,9 @@ pub fn withdraw_at<K: CostKind>(table: &mut [Option<Leg<K>>], n: usize) -> Resul
     ensures answer { result ≡ answer (withdraw_refusal (places_read table.old) n) tt }
     ensures table { table.new ≡ if_refused (withdraw_refusal (places_read table.old) n) table.old (slice_set table.old n None) }
 {
-    match refuse_withdraw(read_part(table), n) {
-        Some(refusal) => Err(refusal),
-        None => {
-            put(table, n, None);
-            Ok(())
-        }
-    }
-}
-
-fn refuse_reprice<K: CostKind>(
-    places: &[Option<Leg<K>>],
-    n: usize,
-    hours: u32,
-    cost: K,
-) -> Option<Refusal>
-    ensures { result ≡ reprice_refusal K.CostKind.kind K.CostKind.row places.now n hours cost }
-{
-    match place(places, n) {
-        Some(_) => refuse_price(hours, cost),
-        None => Some(Refusal::Number),
-    }
-}
-
-// The leg of a place between the same ports, with other hours and another cost.
-fn reprice_place<K: CostKind>(place: Option<Leg<K>>, hours: u32, cost: K) -> Option<Leg<K>>
-    ensures { result ≡ repriced hours cost place }
-{
-    match place {
-        Some(leg) => Some(Leg {
-            from: leg.from,
-            to: leg.to,
-            hours,
-            cost,
-        }),
-        None => None,
-    }
+    used_leg(read_part(table), n)?;
+    put(table, n, None);
+    Ok(())
 }
 
 // Replaces the hours and the cost under a number in use.
@@ -159,12 +103,8 @@ pub fn reprice_at<K: CostKind>(
     ensures answer { result ≡ answer (reprice_refusal K.CostKind.kind K.CostKind.row (places_read table.old) n hours cost) tt }
     ensures table { table.new ≡ if_refused (reprice_refusal K.CostKind.kind K.CostKind.row (places_read table.old) n hours cost) table.old (slice_set table.old n (repriced hours cost (slice_index_or table.old n None))) }
 {
-    match refuse_reprice(read_part(table), n, hours, cost) {
-        Some(refusal) => Err(refusal),
-        None => {
-            let repriced = reprice_place(place(table, n), hours, cost);
-            put(table, n, repriced);
-            Ok(())
-        }
-    }
+    let leg = used_leg(read_part(table), n)?;
+    check_price(u64::from(hours), cost)?;
+    put(table, n, Some(Leg { hours, cost, ..leg }));
+    Ok(())
 }

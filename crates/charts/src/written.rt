@@ -1,5 +1,6 @@
 // A written chart: ports handed in, over a lent table of legs of any cost kind.
-ghost use Rattle.std.specs.Prelude.{◌≡◌, ◌+◌, [], Some, None, slice_index_or};
+ghost use Rattle.std.specs.Prelude.{◌≡◌, ◌≤◌, [], Some, None, slice_index_or};
+ghost use Rattle.limits.specs.Numbers.{most_ports};
 ghost use Rattle.limits.specs.Refusals.{if_refused, answer};
 ghost use Rattle.charts.specs.Edits.{Edited};
 ghost use Rattle.charts.specs.Meaning.{shown_at, leg as leg_shown};
@@ -8,24 +9,27 @@ ghost use Rattle.charts.specs.Written.{table_refusal, places_read, written, ente
 
 use super::chart::Chart;
 use super::leg::{Entry, Leg};
-use super::table::{enter_at, read, read_part, refuse_table, reprice_at, withdraw_at};
+use super::limited::check_port_count;
+use super::table::{enter_at, read, read_part, reprice_at, withdraw_at};
 use costs::CostKind;
 use limits::refusal::Refusal;
+use limits::{MOST_LEGS, MOST_PORTS};
 
 #[derive(Drop)]
 pub struct WrittenChart<'a, K> {
-    // the last port: there are from 1 to 256
-    last: u8,
+    ports: usize,
     table: &'a mut [Option<Leg<K>>],
+    ghost some: { 1 ≤ ports },
+    ghost few: { ports ≤ most_ports },
 }
 
 impl<'a, K: CostKind> Chart for WrittenChart<'a, K> {
     type Cost = K;
 
-    ghost meaning = { λ c. written K.CostKind.kind K.CostKind.row (c.last + 1) c.table.now };
+    ghost meaning = { λ c. written K.CostKind.kind K.CostKind.row c.ports c.table.now };
 
     fn ports(&self) -> usize {
-        self.last as usize + 1
+        self.ports
     }
 
     fn count(&self) -> usize {
@@ -33,7 +37,7 @@ impl<'a, K: CostKind> Chart for WrittenChart<'a, K> {
     }
 
     fn entry(&self, n: usize) -> Entry<K> {
-        read(self.last as usize + 1, self.table, n)
+        read(self.ports, self.table, n)
     }
 }
 
@@ -42,26 +46,25 @@ impl<'a, K: CostKind> WrittenChart<'a, K> {
     pub fn check(ports: usize, table: &[Option<Leg<K>>]) -> Result<(), Refusal>
         ensures { result ≡ answer (table_refusal ports table.now) tt }
     {
-        match refuse_table(ports, table) {
-            Some(refusal) => Err(refusal),
-            None => Ok(()),
+        check_port_count(MOST_PORTS, ports)?;
+        if table.len() <= MOST_LEGS {
+            Ok(())
+        } else {
+            Err(Refusal::Length)
         }
     }
 
     // The chart over the whole table; where the check refuses, a chart of one port over none of it.
     pub fn open(ports: usize, table: &'a mut [Option<Leg<K>>]) -> Self
-        ensures ports { result.last + 1 ≡ if_refused (table_refusal ports table.old) 1 ports }
+        ensures ports { result.ports ≡ if_refused (table_refusal ports table.old) 1 ports }
         ensures table { result.table.now ≡ if_refused (table_refusal ports table.old) [] table.old }
         ensures lender { table_refusal ports table.old ≡ None → result.table.ghost_name ≡ table.entry.ghost_name }
     {
-        match refuse_table(ports, table) {
-            Some(_) => WrittenChart {
-                last: 0,
+        match Self::check(ports, table) {
+            Ok(()) => WrittenChart { ports, table },
+            Err(_) => WrittenChart {
+                ports: 1,
                 table: &mut table[0..0],
-            },
-            None => WrittenChart {
-                last: (ports - 1) as u8,
-                table,
             },
         }
     }
@@ -70,18 +73,18 @@ impl<'a, K: CostKind> WrittenChart<'a, K> {
     pub fn enter(&mut self, n: usize, leg: Leg<K>) -> Result<(), Refusal>
         ensures edit { let k = K.CostKind.kind in
             let row = K.CostKind.row in
-            let p = self.old.last + 1 in
+            let p = self.old.ports in
             let before = self.old.table.now in
             Edited k row p (enter_refusal k row p (places_read before) n leg) n (Some leg) before self.new.table.now result }
         ensures shown { let k = K.CostKind.kind in
             let row = K.CostKind.row in
-            let p = self.old.last + 1 in
+            let p = self.old.ports in
             enter_refusal k row p (places_read self.old.table.now) n leg ≡ None →
             shown_at (written k row p self.new.table.now) n ≡ leg_shown (figures_of row leg) }
-        ensures ports { self.new.last ≡ self.old.last }
+        ensures ports { self.new.ports ≡ self.old.ports }
         ensures lender { self.new.table.ghost_name ≡ self.old.table.ghost_name }
     {
-        enter_at(self.last as usize + 1, self.table, n, leg)
+        enter_at(self.ports, self.table, n, leg)
     }
 
     // Makes a number in use blank.
@@ -89,8 +92,8 @@ impl<'a, K: CostKind> WrittenChart<'a, K> {
         ensures edit { let k = K.CostKind.kind in
             let row = K.CostKind.row in
             let before = self.old.table.now in
-            Edited k row (self.old.last + 1) (withdraw_refusal (places_read before) n) n None before self.new.table.now result }
-        ensures ports { self.new.last ≡ self.old.last }
+            Edited k row self.old.ports (withdraw_refusal (places_read before) n) n None before self.new.table.now result }
+        ensures ports { self.new.ports ≡ self.old.ports }
         ensures lender { self.new.table.ghost_name ≡ self.old.table.ghost_name }
     {
         withdraw_at(self.table, n)
@@ -101,8 +104,8 @@ impl<'a, K: CostKind> WrittenChart<'a, K> {
         ensures edit { let k = K.CostKind.kind in
             let row = K.CostKind.row in
             let before = self.old.table.now in
-            Edited k row (self.old.last + 1) (reprice_refusal k row (places_read before) n hours cost) n (repriced hours cost (slice_index_or before n None)) before self.new.table.now result }
-        ensures ports { self.new.last ≡ self.old.last }
+            Edited k row self.old.ports (reprice_refusal k row (places_read before) n hours cost) n (repriced hours cost (slice_index_or before n None)) before self.new.table.now result }
+        ensures ports { self.new.ports ≡ self.old.ports }
         ensures lender { self.new.table.ghost_name ≡ self.old.table.ghost_name }
     {
         reprice_at(self.table, n, hours, cost)

@@ -80,10 +80,14 @@ digit_bytes_first n some e =
     let within : 0 < length (digits_of 10 n) = omega (arith, length-digits_of_step 10 n (omega arith) some) in
     omega (arith, get_or-map (λ d. 48 + d) (digits_of 10 n) 0 0 0 within)
 
-pub numeral_first : (n : ℕ) → IsInRange 48 57 (get_or (numeral n) 0 0)
+pub numeral_digit : (n i : ℕ) → i < length (numeral n) → IsInRange 48 57 (get_or (numeral n) i 0)
 unfolding numeral
-numeral_first zero = (omega arith, omega arith)
-numeral_first (suc n) = digit_bytes_digit (suc n) 0 (numeral_some (suc n))
+numeral_digit zero zero within = (omega arith, omega arith)
+numeral_digit zero (suc i) within = absurd (omega arith)
+numeral_digit (suc n) i within = digit_bytes_digit (suc n) i within
+
+pub numeral_first : (n : ℕ) → IsInRange 48 57 (get_or (numeral n) 0 0)
+numeral_first n = numeral_digit n 0 (numeral_some n)
 
 pub numeral_no_zero : (n : ℕ) → get_or (numeral n) 0 0 ≡ 48 → 1 < length (numeral n) → ⊥
 unfolding numeral

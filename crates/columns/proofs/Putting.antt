@@ -1,73 +1,98 @@
--- The digits of a number put one by one, from the last to the first, and the minus before them. Assumes nothing.
-use Rattle.std.proofs.Common.{◌≡◌, ℕ, suc, ◌+◌, ◌-◌, ◌/◌, ◌%◌, ◌^◌, ◌<◌, ◌≤◌, true, List, [], ◌∷◌, ◌++◌, length, set, ℤ, pos, negsuc, nat_abs, sym, ap, ◌∙◌, arith}
-use lib.Signed.{lt_z}
-use Rattle.std.proofs.lemmas.List.{append_assoc, append-nil, length-append}
-use Rattle.columns.specs.Numerals.{numeral, signed_numeral}
-use Rattle.columns.specs.Put.{put, AtRight}
-use Rattle.columns.proofs.Numerals.{numeral_one, numeral_more, numeral_some, length_numeral_le}
-use Rattle.columns.proofs.Columns.{fits_signed}
-use Rattle.columns.proofs.Puts.{put_none, put_byte_before}
+-- The bytes before the digits put, and a digit put at the end of a column. Assumes nothing.
+use Rattle.std.proofs.Common.{◌≡◌, ℕ, zero, suc, ◌+◌, ◌-◌, ◌/◌, ◌%◌, ◌^◌, ◌<◌, ◌≤◌, Bool, true, false, List, [], ◌∷◌, ◌++◌, length, take, drop, set, replicate, ℤ, pos, negsuc, nat_abs, refl, sym, ap, ◌∙◌, arith, rules, IsTrue}
+use borrow.Rule.Slice.PartMut.{put_mid}
+use native.Mathlib.Nat.{pow-le-pow_right}
+use Rattle.std.specs.Int.{is_negative}
+use Rattle.std.proofs.lemmas.List.{append_assoc, append-nil, length-append, length-replicate, length-take-le, length-drop, length-set, drop-set, drop_all}
+use Rattle.columns.specs.Numerals.{sign, numeral, signed_numeral}
+use Rattle.columns.specs.Columns.{padded, column, Fits}
+use Rattle.columns.specs.Put.{put}
+use Rattle.columns.proofs.Numerals.{numeral_one, numeral_more, numeral_some}
+use Rattle.columns.proofs.Columns.{fits_unsigned, fits_signed, length_column}
+use Rattle.columns.proofs.Puts.{put_part}
 
--- `done`, the last digits of n, are put over d at the right of the w places from `at` on, the first of them at `first`; the digits of `left` are still to be put
-pub record PutLast (d : List ℕ) (at w n : ℕ) (out : List ℕ) (first left : ℕ) : Type 0 where
-  pub room : at + w ≤ length d
-  pub fits : length (numeral n) ≤ w
-  pub done : List ℕ
-  pub digits : numeral n ≡ numeral left ++ done
-  pub until : first + length done ≡ at + w
-  pub bytes : out ≡ put d first done
+minus_last : (w : ℕ) → set {A = ℕ} (replicate (suc w) 32) w 45 ≡ replicate w 32 ++ (45 ∷ [])
+minus_last zero = refl
+minus_last (suc w) = ap (λ (bs : List ℕ). 32 ∷ bs) (minus_last w)
 
-pub put_last_none : (d : List ℕ) (at w n : ℕ) → at + w ≤ length d → 0 < w → n < 10 ^ w → PutLast d at w n d (at + w) n
-put_last_none d at w n room some below =
-    record { room = room; fits = length_numeral_le w n some below; done = []; digits = sym (append-nil (numeral n)); until = omega arith; bytes = put_none d (at + w) }
+-- a minus at the end of blanks, and blanks alone
+pub put_minus : (bs : List ℕ) (w : ℕ) (negative : Bool) → bs ≡ replicate w 32 → negative ≡ true → length (sign negative) ≤ w → set bs (length bs - 1) 45 ≡ padded w (sign negative)
+unfolding padded
+put_minus bs w false is minus room = absurd cc
+put_minus bs zero true is minus room = absurd (omega arith)
+put_minus bs (suc w) true is minus room =
+    let last : length bs - 1 ≡ w = omega (arith, ap length is, length-replicate {A = ℕ} (suc w) 32) in
+    let same : suc w - 1 ≡ w = omega arith in
+    rw (last, same, is) (minus_last w)
 
--- there is room for a digit more
-pub put_last_room : {d out : List ℕ} {at w n first left : ℕ} → PutLast d at w n out first left → at < first
-put_last_room {left = left} p =
-    omega (arith, ap length p.digits, length-append (numeral left) p.done, numeral_some left, p.until, p.fits)
+pub put_no_minus : (bs : List ℕ) (w : ℕ) (negative : Bool) → bs ≡ replicate w 32 → negative ≡ false → bs ≡ padded w (sign negative)
+unfolding padded
+put_no_minus bs w true is plain = absurd cc
+put_no_minus bs w false is plain =
+    let all : w - 0 ≡ w = omega arith in
+    rw all (is ∙ sym (append-nil (replicate {A = ℕ} w 32)))
 
-put_digit : {d out : List ℕ} {at w n first left : ℕ} (b : ℕ) → (p : PutLast d at w n out first left) → set out (first - 1) b ≡ put d (first - 1) (b ∷ p.done)
-put_digit {d = d} {first = first} b p =
-    ap (λ (bs : List ℕ). set bs (first - 1) b) p.bytes ∙ put_byte_before d p.done (first - 1) first b (omega (arith, put_last_room p)) (omega (arith, p.until, p.room))
+-- there is room for the last digit, and for what stands before it
+pub last_room : (s : List ℕ) (n w : ℕ) → length (s ++ numeral n) ≤ w → 0 < w
+last_room s n w room = omega (arith, length-append s (numeral n), numeral_some n)
 
-pub put_last_more : {d out : List ℕ} {at w n first left : ℕ} (b : ℕ) → b ≡ 48 + left % 10 → 9 < left → PutLast d at w n out first left → PutLast d at w n (set out (first - 1) b) (first - 1) (left / 10)
-put_last_more {left = left} b is large p =
-    record {
-      room = p.room;
-      fits = p.fits;
-      done = b ∷ p.done;
-      digits = p.digits ∙ rw (numeral_more left (omega arith), is) (append_assoc (numeral (left / 10)) ((48 + left % 10) ∷ []) p.done);
-      until = omega (arith, p.until, put_last_room p);
-      bytes = put_digit b p;
-    }
+pub front_room : (s : List ℕ) (n w : ℕ) → 9 < n → length (s ++ numeral n) ≤ w → length (s ++ numeral (n / 10)) < w
+front_room s n w large room =
+    let last : List ℕ = (48 + n % 10) ∷ [] in
+    omega (arith, length-append s (numeral n), length-append s (numeral (n / 10)), ap length (numeral_more n (omega arith)), length-append (numeral (n / 10)) last)
 
-pub put_last_all : {d out : List ℕ} {at w n first left : ℕ} (b : ℕ) → b ≡ 48 + left → left ≤ 9 → PutLast d at w n out first left → AtRight d at w (pos n) (set out (first - 1) b) (first - 1)
+pub sign_room : (s : List ℕ) (n w : ℕ) → length (s ++ numeral n) ≤ w → length s < w
+sign_room s n w room = omega (arith, length-append s (numeral n), numeral_some n)
+
+-- the bytes before the last one that is put
+pub length_front : (column : List ℕ) (b : ℕ) → length (take (length column - 1) (set column (length column - 1) b)) ≡ length column - 1
+length_front column b = length-take-le (length column - 1) (set column (length column - 1) b) (omega (arith, length-set column (length column - 1) b))
+
+-- a byte at the end of a column, and the others padded before it
+pub put_last : (column front bs : List ℕ) (b : ℕ) → length bs < length column → front ≡ padded (length (take (length column - 1) (set column (length column - 1) b))) bs → front ++ drop (length column - 1) (set column (length column - 1) b) ≡ padded (length column) (bs ++ (b ∷ []))
+unfolding padded
+put_last column front bs b room is =
+    let blanks : length column - length (bs ++ (b ∷ [])) ≡ length column - 1 - length bs = omega (arith, length-append bs (b ∷ [])) in
+    let end : drop (length column - 1) (set column (length column - 1) b) ≡ b ∷ [] =
+    drop-set column (length column - 1) b (omega arith) ∙ ap (λ (ds : List ℕ). b ∷ ds) (drop_all (length column - 1 + 1) column (omega arith)) in
+    rw (is, length_front column b, end, blanks) (append_assoc (replicate (length column - 1 - length bs) 32) bs (b ∷ []))
+
+-- the last digit and those before it, or a digit alone
+pub put_more : (s : List ℕ) (n b : ℕ) → 9 < n → b ≡ 48 + n % 10 → (s ++ numeral (n / 10)) ++ (b ∷ []) ≡ s ++ numeral n
+put_more s n b large is = rw is (append_assoc s (numeral (n / 10)) ((48 + n % 10) ∷ []) ∙ ap (λ (ds : List ℕ). s ++ ds) (sym (numeral_more n (omega arith))))
+
+pub put_one_digit : (s : List ℕ) (n b : ℕ) → n ≤ 9 → b ≡ 48 + n % 10 → s ++ (b ∷ []) ≡ s ++ numeral n
+put_one_digit s n b small is =
+    let digit : b ≡ 48 + n = omega arith in
+    rw digit (ap (λ (ds : List ℕ). s ++ ds) (sym (numeral_one n (omega arith))))
+
+-- a number that is small enough fits, where a byte is kept for the minus of one below 0
+pub fits_kept : (w kept : ℕ) (z : ℤ) → (IsTrue (is_negative z) → 0 < kept) → 0 < w → nat_abs z < 10 ^ (w - kept) → Fits w z
+fits_kept w kept (pos n) minus some below =
+    let less : w - kept ≤ w = omega arith in
+    let grows : 10 ^ (w - kept) ≤ 10 ^ w = pow-le-pow_right (omega arith) less in
+    fits_unsigned w n some (omega arith)
+fits_kept w kept (negsuc n) minus some below =
+    let one : 0 < kept = minus (search rules) in
+    let less : w - kept ≤ w - 1 = omega arith in
+    let grows : 10 ^ (w - kept) ≤ 10 ^ (w - 1) = pow-le-pow_right (omega arith) less in
+    fits_signed w (negsuc n) some (omega arith)
+
+-- a numeral by its sign and its size
+pub by_sign : (z : ℤ) (negative : Bool) (size : ℕ) → negative ≡ is_negative z → size ≡ nat_abs z → sign negative ++ numeral size ≡ signed_numeral z
 unfolding signed_numeral
-put_last_all {d = d} {n = n} {first = first} {left = left} b is small p =
-    let all : numeral n ≡ b ∷ p.done = p.digits ∙ rw (numeral_one left (omega arith), is) in
-    record {
-      room = p.room;
-      before = omega (arith, put_last_room p);
-      until = omega (arith, ap length all, p.until, put_last_room p);
-      bytes = put_digit b p ∙ ap (put d (first - 1)) (sym all);
-    }
+by_sign (pos n) negative size sign_is size_is =
+    let plain : negative ≡ false = grind arith in
+    rw (plain, size_is) refl
+by_sign (negsuc n) negative size sign_is size_is = rw (sign_is, size_is) refl
 
--- a minus right before the digits
-pub minus_room : {d out : List ℕ} {at w n first : ℕ} (z : ℤ) → lt_z z (pos 0) ≡ true → n ≡ nat_abs z → 0 < w → nat_abs z < 10 ^ (w - 1) → AtRight d at w (pos n) out first → at < first
-unfolding signed_numeral
-minus_room (pos n) negative is wide below p = absurd (grind arith)
-minus_room {w = w} (negsuc k) negative is wide below p =
-    omega (arith, fits_signed w (negsuc k) wide below, ap (λ (m : ℕ). length (numeral m)) is, p.until)
+-- the column at a place of the buffer, and what is left of the buffer when it is put
+pub length_place : (out : List ℕ) (at w : ℕ) → at + w ≤ length out → length (take (at + w - at) (drop at out)) ≡ w
+length_place out at w room = omega (arith, length-take-le (at + w - at) (drop at out) (omega (arith, length-drop at out)))
 
-pub minus_before : {d out : List ℕ} {at w n first : ℕ} (z : ℤ) → lt_z z (pos 0) ≡ true → n ≡ nat_abs z → 0 < w → nat_abs z < 10 ^ (w - 1) → AtRight d at w (pos n) out first → AtRight d at w z (set out (first - 1) 45) (first - 1)
-unfolding signed_numeral
-minus_before (pos n) negative is wide below p = absurd (grind arith)
-minus_before {d = d} {n = n} {first = first} (negsuc k) negative is wide below p =
-    let some = minus_room (negsuc k) negative is wide below p in
-    let same : 45 ∷ numeral n ≡ 45 ∷ numeral (suc k) = ap (λ (m : ℕ). 45 ∷ numeral m) is in
-    record {
-      room = p.room;
-      before = omega arith;
-      until = omega (arith, ap length same, p.until);
-      bytes = ap (λ (bs : List ℕ). set bs (first - 1) 45) p.bytes ∙ put_byte_before d (numeral n) (first - 1) first 45 (omega arith) (omega (arith, p.until, p.room)) ∙ ap (put d (first - 1)) same;
-    }
+pub put_place : (out bytes : List ℕ) (at w : ℕ) (z : ℤ) → at + w ≤ length out → Fits w z → bytes ≡ padded (length (take (at + w - at) (drop at out))) (signed_numeral z) → put_mid at (at + w - at) out bytes ≡ put out at (column w z)
+unfolding column
+put_place out bytes at w z room fits is =
+    let all : bytes ≡ padded w (signed_numeral z) = is ∙ ap (λ (k : ℕ). padded k (signed_numeral z)) (length_place out at w room) in
+    let len : length bytes ≡ at + w - at = omega (arith, ap length all, length_column w z fits) in
+    put_part out bytes at (at + w - at) len ∙ ap (put out at) all

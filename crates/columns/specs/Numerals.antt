@@ -1,5 +1,5 @@
 -- The shortest decimal of a number, in bytes. Assumes nothing.
-use Rattle.std.specs.Prelude.{ℕ, zero, suc, ◌+◌, List, [], ◌∷◌, map, ℤ, pos, negsuc}
+use Rattle.std.specs.Prelude.{ℕ, zero, suc, ◌+◌, Bool, cond, List, [], ◌∷◌, map, ℤ, pos, negsuc}
 use Rattle.std.specs.Int.Digits.{digits_of}
 
 abbrev pub minus_byte : ℕ
@@ -24,3 +24,7 @@ numeral (suc n) = digit_bytes (suc n)
 unfoldable pub signed_numeral : ℤ → List ℕ
 signed_numeral (pos n) = numeral n
 signed_numeral (negsuc n) = minus_byte ∷ numeral (suc n)
+
+-- what stands before the digits: a minus where the number is below 0
+abbrev pub sign : Bool → List ℕ
+sign negative = cond negative (minus_byte ∷ []) []

@@ -1,5 +1,5 @@
 // What a cost kind shows and does.
-ghost use Rattle.std.specs.Prelude.{◌≡◌, ◌+◌, ◌*◌, ◌≤◌, nat_le};
+ghost use Rattle.std.specs.Prelude.{◌≡◌, ℕ, ◌+◌, ◌*◌, ◌≤◌, nat_le};
 ghost use Rattle.limits.specs.Numbers.{exact_size};
 ghost use Rattle.rows.specs.Rows.{Row, zero_row, sum, negative, times, Narrow};
 ghost use Rattle.rows.specs.Kinds.{Kind, Laws};
@@ -11,18 +11,25 @@ pub trait CostKind: Copy {
     // How many places a value has.
     const PLACES: usize;
 
+    ghost PLACES: { ℕ };
+
     ghost kind: { Kind };
 
     ghost row: { Self → Row };
 
     ghost lawful: { Laws kind };
 
+    ghost as_many: { PLACES ≡ kind.places };
+
     // Nothing hides in a place that the kind does not have.
     ghost narrow: { (c : Self) → Narrow kind.places (row c) };
 
-    // PLACES again, for clauses, which cannot read a constant of a type parameter.
+    // PLACES again, as many as the kind's rows have.
     fn place_count() -> usize
-        ensures { result ≡ kind.places };
+        ensures { result ≡ kind.places }
+    {
+        Self::PLACES
+    }
 
     fn zero() -> Self
         ensures { row result ≡ zero_row };

@@ -1,15 +1,17 @@
 // Money, then tonnes of carbon dioxide: two places; the tonnes decide only where the dollars are equal.
-ghost use Rattle.std.specs.Prelude.{◌≡◌, ◌+◌, ◌*◌, ◌≤◌, pos, ◌+ℤ◌, ◌*ℤ◌, neg_ℤ, unsigned_abs};
+ghost use Rattle.std.specs.Prelude.{◌≡◌, ◌+◌, ◌*◌, ◌≤◌, pos, ◌+ℤ◌, ◌*ℤ◌, neg_ℤ, unsigned_abs, Some, refl};
 ghost use Rattle.limits.specs.Numbers.{exact_size};
 ghost use Rattle.rows.specs.Orders.{by_dollars_then_tonnes};
 ghost use Rattle.rows.specs.Rows.{two_places};
 ghost use Rattle.rows.proofs.Lawful.{by_dollars_then_tonnes_laws};
 ghost use Rattle.rows.proofs.Places.{two_places_narrow};
+ghost use Rattle.costs.specs.Texts.{money_tonnes_text};
 
 use crate::kind::CostKind;
 use crate::whole::{multiple_of, negative_of, sum_of};
+use std::fmt;
 
-#[derive(Clone, Copy, PartialEq, Eq, Debug)]
+#[derive(Clone, Copy, PartialEq, Eq, PartialOrd, Ord, Debug)]
 pub struct MoneyTonnes {
     pub dollars: i64,
     pub tonnes: i64,
@@ -51,17 +53,17 @@ impl MoneyTonnes {
 impl CostKind for MoneyTonnes {
     const PLACES: usize = 2;
 
+    ghost PLACES = { 2 };
+
     ghost kind = { by_dollars_then_tonnes };
 
     ghost row = { λ c. two_places c.dollars c.tonnes };
 
     ghost lawful = { by_dollars_then_tonnes_laws };
 
-    ghost narrow = { λ c. two_places_narrow c.dollars c.tonnes };
+    ghost as_many = { refl };
 
-    fn place_count() -> usize {
-        Self::PLACES
-    }
+    ghost narrow = { λ c. two_places_narrow c.dollars c.tonnes };
 
     fn zero() -> MoneyTonnes {
         MoneyTonnes {
@@ -83,11 +85,18 @@ impl CostKind for MoneyTonnes {
     }
 
     fn below(self, other: MoneyTonnes) -> bool {
-        self.dollars < other.dollars
-            || (self.dollars == other.dollars && self.tonnes < other.tonnes)
+        self < other
     }
 
     fn fits(self, limit: u64) -> bool {
         self.dollars.unsigned_abs() <= limit && self.tonnes.unsigned_abs() <= limit
+    }
+}
+
+impl fmt::Display for MoneyTonnes {
+    ghost output = { λ c. Some (money_tonnes_text c) };
+
+    fn fmt<W: fmt::Write>(&self, f: &mut fmt::Formatter<W>) -> fmt::Result {
+        write!(f, "{} dollars and {} tonnes", self.dollars, self.tonnes)
     }
 }

@@ -1,5 +1,7 @@
 -- The number of each refusal, and what a call answers that is refused or not. Assumes nothing.
-use Rattle.std.specs.Prelude.{ℕ, Some, None, Ok, Err, Option, Result}
+use lib.Chars.{codes}
+use Rattle.std.specs.Prelude.{ℕ, List, ◌++◌, Some, None, Ok, Err, Option, Result}
+use Rattle.std.specs.Fmt.{decimal}
 use Rattle.limits.specs.declared.refusal.Refusal.{Refusal}
 use Rattle.limits.specs.declared.refusal.Refusal.TheVariants.{Port, Cost, Hours, NumberTaken, Number, Length, EntryOver, IdleRound, NoRound, Malformed, NothingStands}
 
@@ -15,6 +17,10 @@ refusal_number IdleRound = 8
 refusal_number NoRound = 9
 refusal_number Malformed = 10
 refusal_number NothingStands = 11
+
+-- how a refusal is told
+abbrev pub refusal_text : Refusal → List ℕ
+refusal_text r = codes "refused, " ++ decimal (refusal_number r)
 
 -- the first where a call is refused, and else the second
 abbrev pub if_refused : {A : Type 0} → Option Refusal → A → A → A

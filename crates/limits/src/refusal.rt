@@ -1,6 +1,8 @@
 // Why a call is refused.
-ghost use Rattle.std.specs.Prelude.{◌≡◌};
-ghost use Rattle.limits.specs.Refusals.{refusal_number};
+ghost use Rattle.std.specs.Prelude.{◌≡◌, Some};
+ghost use Rattle.limits.specs.Refusals.{refusal_number, refusal_text};
+
+use std::fmt;
 
 #[derive(Clone, Copy, PartialEq, Eq, Debug)]
 pub enum Refusal {
@@ -46,5 +48,14 @@ impl Refusal {
             Refusal::Malformed => 10,
             Refusal::NothingStands => 11,
         }
+    }
+}
+
+// As a call's refusal is told.
+impl fmt::Display for Refusal {
+    ghost output = { λ r. Some (refusal_text r) };
+
+    fn fmt<W: fmt::Write>(&self, f: &mut fmt::Formatter<W>) -> fmt::Result {
+        write!(f, "refused, {}", self.number())
     }
 }

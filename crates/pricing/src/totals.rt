@@ -33,7 +33,7 @@ fn with_leg<K: CostKind>(sum: Rate<K>, leg: Leg<K>) -> Rate<K>
 {
     Rate {
         cost: sum.cost.plus(leg.cost),
-        hours: sum.hours.saturating_add(leg.hours as u64),
+        hours: sum.hours.saturating_add(u64::from(leg.hours)),
     }
 }
 
@@ -49,16 +49,6 @@ fn no_legs<K: CostKind>() -> Rate<K>
     }
 }
 
-// The sum of the first legs of a list, with leg i of the list added.
-fn with_next<C: Chart>(chart: &C, numbers: &[u16], i: usize, sum: Rate<C::Cost>) -> Rate<C::Cost>
-    requires within { Within C.Cost.CostKind.kind (C.Chart.meaning chart.now) }
-    requires place { i < length numbers.now }
-    requires summed { SummedIfFew C.Cost.CostKind.kind C.Cost.CostKind.row (C.Chart.meaning chart.now) numbers.now i sum.cost sum.hours }
-    ensures { SummedIfFew C.Cost.CostKind.kind C.Cost.CostKind.row (C.Chart.meaning chart.now) numbers.now (i + 1) result.cost result.hours }
-{
-    with_leg(sum, leg_at(chart, numbers[i] as usize))
-}
-
 // What the legs of a list cost and take together; exact for as many as a chart has entries.
 pub fn total<C: Chart>(chart: &C, numbers: &[u16]) -> Rate<C::Cost>
     ensures { length numbers.now ≤ most_legs → Totals C.Cost.CostKind.row (C.Chart.meaning chart.now) numbers.now result.cost result.hours }
@@ -66,8 +56,8 @@ pub fn total<C: Chart>(chart: &C, numbers: &[u16]) -> Rate<C::Cost>
     // the limits of the chart bound each leg
     let _ports = chart.ports();
     let mut sum = no_legs();
-    for i in 0..numbers.len() {
-        sum = with_next(chart, numbers, i, sum);
+    for number in numbers {
+        sum = with_leg(sum, leg_at(chart, usize::from(*number)));
     }
     sum
 }

@@ -1,5 +1,6 @@
 -- The legs of a kept round, each with the two ports that it joined, and whether they are still there on a chart. Assumes nothing.
 use Rattle.std.specs.Prelude.{ℕ, Bool, true, ◌&&◌, List, [], ◌∷◌, map, ◌==◌}
+use Rattle.std.specs.List.{list_all}
 use Rattle.charts.specs.Meaning.{Meaning}
 use Rattle.rounds.specs.Legs.{there, leaves, reaches}
 
@@ -27,5 +28,4 @@ still_joins m j = there m j.number && (leaves m j.number == j.from && reaches m 
 
 -- every leg still joins the same ports
 abbrev pub still_there : Meaning → List Joined → Bool
-still_there m [] = true
-still_there m (j ∷ js) = still_joins m j && still_there m js
+still_there m = list_all (still_joins m)

@@ -15,7 +15,7 @@ use crate::kind::SheetKind;
 use crate::numbered::NumberedLeg;
 use crate::places::Places;
 use crate::tally::Tally;
-use columns::{put_signed, put_unsigned};
+use columns::{Numeral, put_number};
 
 const LEG_LETTER: u8 = b'L';
 
@@ -39,20 +39,12 @@ impl LineWriter<'_> {
         self.at += 1;
     }
 
-    fn put_number(&mut self, width: usize, n: u64)
+    fn put_number<N: Numeral>(&mut self, width: usize, n: N)
         requires room { self.old.at + width ≤ length self.old.out.now }
-        requires fits { (0 < width) × (n < 10 ^ width) }
-        ensures { Puts self.old self.new (column width (pos n)) width }
+        requires fits { (0 < width) × (unsigned_abs (N.number n) < 10 ^ (width - N.sign_width)) }
+        ensures { Puts self.old self.new (column width (N.number n)) width }
     {
-        self.at = put_unsigned(self.out, self.at, width, n);
-    }
-
-    fn put_signed(&mut self, width: usize, z: i64)
-        requires room { self.old.at + width ≤ length self.old.out.now }
-        requires fits { (0 < width) × (unsigned_abs z < 10 ^ (width - 1)) }
-        ensures { Puts self.old self.new (column width z) width }
-    {
-        self.at = put_signed(self.out, self.at, width, z);
+        self.at = put_number(self.out, self.at, width, n);
     }
 
     // Puts a leg number, a port or a count.
@@ -72,7 +64,7 @@ impl LineWriter<'_> {
         ensures { Puts self.old self.new (place_columns width K.CostKind.kind.places (row_of places)) (width * K.CostKind.kind.places) }
     {
         for number in &places.numbers[..K::place_count()] {
-            self.put_signed(width, *number);
+            self.put_number(width, *number);
         }
     }
 }

@@ -1,30 +1,27 @@
-use Rattle.std.proofs.Common.{◌≡◌, ◌<◌, length, get_or, sym, refl, ap, ◌∙◌, arith}
-use Rattle.columns.specs.Numerals.{numeral, signed_numeral}
-use Rattle.columns.proofs.Numerals.{same_first, numeral_some, numeral_no_zero, digit_bytes_below}
-use Rattle.columns.proofs.Reading.{mapped_cases, one_byte, plain_digits, digits_plain}
+use Rattle.std.proofs.Common.{◌≡◌, length, get_or, drop, sym, ap, ◌∙◌, arith, rules}
+use Rattle.columns.specs.Numerals.{signed_numeral}
+use Rattle.columns.proofs.Reading.{Plain, parsed, not_text, plus_none, zero_none, minus_zero_none}
 use Rattle.columns.proofs.read_numeral.Goals as goal
 
-pub returns-then-leads_with_zero : goal.returns-then-leads_with_zero
-unfolding signed_numeral
-returns-then-leads_with_zero c n is =
-    let zero = c.if-leads_with_zero.ensures.0 refl in
-    numeral_no_zero n (sym (same_first is) ∙ zero.0) (omega (arith, zero.1, ap length is))
+pub returns-in-43 : goal.returns-in-43
+returns-in-43 c = plus_none c.args.bytes.now (grind arith)
 
-pub returns-in-empty : goal.returns-in-empty
-unfolding signed_numeral
-returns-in-empty c n is = let some = numeral_some n in let same = ap length is in grind arith
+pub returns-in-43-2 : goal.returns-in-43-2
+returns-in-43-2 c = plus_none c.args.bytes.now (grind arith)
 
-pub returns-in-48 : goal.returns-in-48
-unfolding signed_numeral numeral
-returns-in-48 c =
-    let alone = c.if-leads_with_zero.ensures.1 in
-    (one_byte c.args.bytes.now 48 (grind (arith, alone)) (grind arith), omega arith)
+pub returns-in-43-3 : goal.returns-in-43-3
+returns-in-43-3 c = zero_none c.args.bytes.now (grind arith) (grind arith)
 
-pub returns-in_default : goal.returns-in_default
-returns-in_default c =
-    let some : 0 < length c.args.bytes.now = grind arith in
-    let leads : get_or c.args.bytes.now 0 0 ≡ 48 → ⊥ = (λ is. grind arith) in
-    mapped_cases c.read_digits.result
-    (λ none n is. none n (plain_digits c.args.bytes.now n leads is))
-    (λ n is. (digits_plain c.args.bytes.now n some is, digit_bytes_below n 18 (omega (arith, ap length is))))
-    c.read_digits.ensures
+pub returns-in-43-4 : goal.returns-in-43-4
+returns-in-43-4 c = minus_zero_none c.args.bytes.now (grind arith) (grind arith)
+
+pub returns-in_err-ok-in_default : goal.returns-in_err-ok-in_default
+returns-in_err-ok-in_default c =
+    rw c.from_residual.ensures (not_text c.args.bytes.now (λ text. search rules))
+
+pub returns-in_ok-ok-in_default : goal.returns-in_ok-ok-in_default
+returns-in_ok-ok-in_default c =
+    let same : c.in_ok-ok-in_default.field-0.now ≡ c.args.bytes.now = search rules in
+    let plain : Plain c.args.bytes.now =
+    record { narrow = c.requires; no_plus = λ is. grind arith; no_zero = λ is. grind arith; no_minus_zero = λ is more leads. grind arith } in
+    rw c.ok-in_default.ensures.value (parsed c.args.bytes.now c.parse.result (rw same at c.parse.ensures.value.0) plain)

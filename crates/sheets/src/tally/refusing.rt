@@ -1,8 +1,6 @@
 // Why a line is refused.
 ghost use Rattle.std.specs.Prelude.{◌≡◌};
 ghost use Rattle.limits.specs.Refusals.{answer};
-ghost use Rattle.charts.specs.Limits.{port_count_refusal, leg_refusal};
-ghost use Rattle.charts.specs.Reading.{figures_of};
 ghost use Rattle.sheets.specs.Begun.{tallied, room_refusal, begin_refusal, number_refusal_below, line_refusal, close_refusal};
 ghost use Rattle.sheets.specs.Writing.{numbered_of};
 
@@ -10,28 +8,9 @@ use super::Tally;
 use crate::form::{HEAD_LENGTH, end_length, leg_length};
 use crate::kind::SheetKind;
 use crate::numbered::NumberedLeg;
-use charts::Leg;
-use charts::limited::{refuse_leg, refuse_port_count};
+use charts::limited::{check_leg, check_port_count};
 use limits::refusal::Refusal;
 use limits::{MOST_LEGS, MOST_PORTS};
-
-fn check_port_count(most: usize, ports: usize) -> Result<(), Refusal>
-    ensures { result ≡ answer (port_count_refusal most ports) tt }
-{
-    match refuse_port_count(most, ports) {
-        Some(refusal) => Err(refusal),
-        None => Ok(()),
-    }
-}
-
-fn check_leg<K: SheetKind>(ports: usize, leg: Leg<K>) -> Result<(), Refusal>
-    ensures { result ≡ answer (leg_refusal K.CostKind.kind ports (figures_of K.CostKind.row leg)) tt }
-{
-    match refuse_leg(ports, leg) {
-        Some(refusal) => Err(refusal),
-        None => Ok(()),
-    }
-}
 
 fn check_room(needed: usize, len: usize) -> Result<(), Refusal>
     ensures { result ≡ answer (room_refusal needed len) tt }

@@ -1,5 +1,5 @@
 use Rattle.rows.proofs.Multiples.{consequences}
 use Rattle.costs.proofs.kind.kind_keeps_laws.Goals as goal
 
-pub returns : goal.returns
-returns g c = let k = g.K.CostKind in record { laws = k.lawful; consequences = consequences k.kind k.lawful; narrow = k.narrow }
+pub returns-clause-consequences : goal.returns-clause-consequences
+returns-clause-consequences g c = let k = g.K.CostKind in consequences k.kind k.lawful

@@ -7,4 +7,4 @@ use Rattle.charts.proofs.grid.GridChartChart.count.Goals as goal
 
 pub returns : goal.returns
 returns c = let s = c.args.self.now in
-    omega (arith, length_grid by_dollars (s.last + 1) (one_place s.cost.dollars) s.hours.now, length-take most_legs s.hours.now)
+    omega (arith, length_grid by_dollars s.ports (one_place s.cost.dollars) s.hours.now, length-take most_legs s.hours.now)

@@ -1,13 +1,8 @@
-use Rattle.std.proofs.Common.{◌+◌, refl}
 use Rattle.charts.proofs.Edits.{used_first, edited}
 use Rattle.charts.proofs.written.WrittenChart.withdraw.Goals as goal
 
-pub returns : goal.returns
-returns g c =
+pub returns-clause-edit : goal.returns-clause-edit
+returns-clause-edit g c =
     let k = g.K.CostKind in
     let s = c.args.self.now in
-    record {
-      edit = edited k.kind k.row (s.last + 1) _ c.args.n _ s.table.now _ _ (used_first s.table.now c.args.n _) c.withdraw_at.ensures.answer c.withdraw_at.ensures.table;
-      ports = refl;
-      lender = refl;
-    }
+    edited k.kind k.row s.ports _ c.args.n _ s.table.now _ _ (used_first s.table.now c.args.n _) c.withdraw_at.ensures.answer c.withdraw_at.ensures.table

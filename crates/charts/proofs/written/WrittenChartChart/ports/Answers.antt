@@ -1,7 +1,5 @@
-use Rattle.std.proofs.Common.{◌+◌, arith, rules}
 use Rattle.charts.proofs.Tables.{written_within}
 use Rattle.charts.proofs.written.WrittenChartChart.ports.Goals as goal
 
-pub returns : goal.returns
-returns g c = let k = g.K.CostKind in let s = c.args.self.now in
-    record { value = search rules; within = written_within k.kind k.row (s.last + 1) s.table.now (omega arith) (search rules) }
+pub returns-clause-within : goal.returns-clause-within
+returns-clause-within g c = let s = c.args.self.now in written_within g.K.CostKind.kind g.K.CostKind.row s.ports s.table.now s.some s.few
