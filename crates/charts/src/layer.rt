@@ -20,7 +20,8 @@ pub trait Layer<K: CostKind> {
     fn is_accepted(&self) -> bool
         ensures { result ≡ accepted self.now };
 
-    // The leg as the layer has it, or none where its number is to be blank.
+    // The leg as the layer has it, or none where its number is to be blank. Each layer writes these clauses again, since
+    // the check gives a method of a trait with a parameter none of its trait's.
     fn pass(&self, leg: Leg<K>) -> Option<Leg<K>>
         requires accepted { accepted self.now ≡ true }
         requires allowed { Allowed K.CostKind.kind most_ports (figures_of K.CostKind.row leg) }

@@ -30,7 +30,8 @@ pub fn check_cost<K: CostKind>(cost: K) -> Result<(), Refusal>
     }
 }
 
-// The hours may be more than a leg can hold, since they are tested before they are narrowed.
+// The hours may be more than a leg can hold, since they are tested before they are narrowed. Hours and cost are no
+// struct of their own, which each caller would only make here to be taken apart.
 pub fn check_price<K: CostKind>(hours: u64, cost: K) -> Result<(), Refusal>
     ensures { result ≡ answer (price_refusal K.CostKind.kind hours (K.CostKind.row cost)) tt }
 {

@@ -1,4 +1,5 @@
-// A table of legs: what a place shows, and the edits, each on the slice that it is handed.
+// A table of legs: what a place shows, and the edits. They take ports and table apart, and no written chart, since of a
+// slice that is lent out of a field a proof knows the length alone.
 ghost use Rattle.std.specs.Prelude.{◌≡◌, length, Some, None, slice_index_or, slice_set};
 ghost use Rattle.limits.specs.Refusals.{if_refused, answer};
 ghost use Rattle.charts.specs.Meaning.{shown_at};

@@ -1,8 +1,7 @@
--- Bytes put before and after those that were put already. Assumes nothing.
-use Rattle.std.proofs.Common.{◌≡◌, ℕ, ◌+◌, ◌-◌, ◌<◌, ◌≤◌, List, [], ◌∷◌, ◌++◌, length, take, drop, set, replicate, sym, ap, ◌∙◌, add-one, arith}
+-- Bytes put after those that were put already. Assumes nothing.
+use Rattle.std.proofs.Common.{◌≡◌, ℕ, ◌+◌, ◌<◌, ◌≤◌, List, [], ◌∷◌, ◌++◌, length, take, drop, set, sym, ap, ◌∙◌, add-one, arith}
 use borrow.Rule.Slice.PartMut.{put_mid}
-use Rattle.std.proofs.lemmas.List.{append_assoc, set_split, length-append, length-replicate, length-take-le, length-drop, drop-drop, take_at, drop_at, take-append-le, take-take, take-append-drop}
-use Rattle.columns.specs.Columns.{padded}
+use Rattle.std.proofs.lemmas.List.{append_assoc, set_split, length-append, length-take-le, length-drop, drop-drop, take_at, drop_at}
 use Rattle.columns.specs.Put.{put}
 
 pub put_one : (d : List ℕ) (at b : ℕ) → at < length d → set d at b ≡ put d at (b ∷ [])
@@ -19,16 +18,6 @@ unfolding put
 length_put d s at room =
     omega (arith, length-append (take at d) (s ++ drop (at + length s) d), length-append s (drop (at + length s) d), length-take-le at d (omega arith), length-drop (at + length s) d)
 
--- t put right before s
-pub put_before : (d s t : List ℕ) (at m : ℕ) → m ≡ at + length t → m ≤ length d → put (put d m s) at t ≡ put d at (t ++ s)
-unfolding put
-put_before d s t at m e room =
-    let len : length (take m d) ≡ m = length-take-le m d room in
-    let front : take at (put d m s) ≡ take at d = take-append-le at (take m d) (s ++ drop (m + length s) d) (omega arith) ∙ take-take at m d (omega arith) in
-    let back : drop (at + length t) (put d m s) ≡ s ++ drop (m + length s) d = drop_at (take m d) (s ++ drop (m + length s) d) (at + length t) (len ∙ e) in
-    let end : m + length s ≡ at + length (t ++ s) = omega (arith, length-append t s) in
-    rw (front, back, end) (ap (λ (rest : List ℕ). take at d ++ rest) (sym (append_assoc t s (drop (at + length (t ++ s)) d))))
-
 -- t put right after s
 pub put_after : (d s t : List ℕ) (at m : ℕ) → m ≡ at + length s → at ≤ length d → put (put d at s) m t ≡ put d at (s ++ t)
 unfolding put
@@ -41,19 +30,3 @@ put_after d s t at m e room =
     let back : drop (m + length t) (put d at s) ≡ drop (at + length (s ++ t)) d =
     sym (drop-drop (length t) m (put d at s)) ∙ ap (drop (length t)) rest ∙ drop-drop (length t) (at + length s) d ∙ ap (λ (k : ℕ). drop k d) end in
     rw (front, back) (append_assoc (take at d) s (t ++ drop (at + length (s ++ t)) d) ∙ ap (λ (rest : List ℕ). take at d ++ rest) (sym (append_assoc s t (drop (at + length (s ++ t)) d))))
-
--- one byte put right before s
-pub put_byte_before : (d s : List ℕ) (at m b : ℕ) → m ≡ at + 1 → m + length s ≤ length d → set (put d m s) at b ≡ put d at (b ∷ s)
-put_byte_before d s at m b e room =
-    put_one (put d m s) at b (omega (arith, length_put d s m room)) ∙ put_before d s (b ∷ []) at m e (omega arith)
-
--- blanks put right before s
-pub put_padded : (d s : List ℕ) (at w first : ℕ) → first + length s ≡ at + w → at ≤ first → first ≤ length d → put (put d first s) at (replicate (first - at) 32) ≡ put d at (padded w s)
-unfolding padded
-put_padded d s at w first e before room =
-    let n : first - at ≡ w - length s = omega arith in
-    put_before d s (replicate (first - at) 32) at first (omega (arith, length-replicate {A = ℕ} (first - at) 32)) room ∙ ap (λ (k : ℕ). put d at (replicate k 32 ++ s)) n
-
-pub put_none : (d : List ℕ) (at : ℕ) → d ≡ put d at []
-unfolding put
-put_none d at = sym (ap (λ (n : ℕ). take at d ++ drop n d) (omega arith) ∙ take-append-drop at d)

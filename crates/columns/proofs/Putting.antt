@@ -32,24 +32,21 @@ put_no_minus bs w false is plain =
     let all : w - 0 ≡ w = omega arith in
     rw all (is ∙ sym (append-nil (replicate {A = ℕ} w 32)))
 
--- there is room for the last digit, and for what stands before it
-pub last_room : (s : List ℕ) (n w : ℕ) → length (s ++ numeral n) ≤ w → 0 < w
-last_room s n w room = omega (arith, length-append s (numeral n), numeral_some n)
+-- what stands before a number is shorter than the whole, and so is all but its last digit
+pub before_shorter : (s : List ℕ) (n : ℕ) → length s < length (s ++ numeral n)
+before_shorter s n = omega (arith, length-append s (numeral n), numeral_some n)
 
-pub front_room : (s : List ℕ) (n w : ℕ) → 9 < n → length (s ++ numeral n) ≤ w → length (s ++ numeral (n / 10)) < w
-front_room s n w large room =
+pub front_shorter : (s : List ℕ) (n : ℕ) → 9 < n → length (s ++ numeral (n / 10)) < length (s ++ numeral n)
+front_shorter s n large =
     let last : List ℕ = (48 + n % 10) ∷ [] in
     omega (arith, length-append s (numeral n), length-append s (numeral (n / 10)), ap length (numeral_more n (omega arith)), length-append (numeral (n / 10)) last)
-
-pub sign_room : (s : List ℕ) (n w : ℕ) → length (s ++ numeral n) ≤ w → length s < w
-sign_room s n w room = omega (arith, length-append s (numeral n), numeral_some n)
 
 -- the bytes before the last one that is put
 pub length_front : (column : List ℕ) (b : ℕ) → length (take (length column - 1) (set column (length column - 1) b)) ≡ length column - 1
 length_front column b = length-take-le (length column - 1) (set column (length column - 1) b) (omega (arith, length-set column (length column - 1) b))
 
 -- a byte at the end of a column, and the others padded before it
-pub put_last : (column front bs : List ℕ) (b : ℕ) → length bs < length column → front ≡ padded (length (take (length column - 1) (set column (length column - 1) b))) bs → front ++ drop (length column - 1) (set column (length column - 1) b) ≡ padded (length column) (bs ++ (b ∷ []))
+put_last : (column front bs : List ℕ) (b : ℕ) → length bs < length column → front ≡ padded (length (take (length column - 1) (set column (length column - 1) b))) bs → front ++ drop (length column - 1) (set column (length column - 1) b) ≡ padded (length column) (bs ++ (b ∷ []))
 unfolding padded
 put_last column front bs b room is =
     let blanks : length column - length (bs ++ (b ∷ [])) ≡ length column - 1 - length bs = omega (arith, length-append bs (b ∷ [])) in
@@ -57,14 +54,20 @@ put_last column front bs b room is =
     drop-set column (length column - 1) b (omega arith) ∙ ap (λ (ds : List ℕ). b ∷ ds) (drop_all (length column - 1 + 1) column (omega arith)) in
     rw (is, length_front column b, end, blanks) (append_assoc (replicate (length column - 1 - length bs) 32) bs (b ∷ []))
 
--- the last digit and those before it, or a digit alone
-pub put_more : (s : List ℕ) (n b : ℕ) → 9 < n → b ≡ 48 + n % 10 → (s ++ numeral (n / 10)) ++ (b ∷ []) ≡ s ++ numeral n
-put_more s n b large is = rw is (append_assoc s (numeral (n / 10)) ((48 + n % 10) ∷ []) ∙ ap (λ (ds : List ℕ). s ++ ds) (sym (numeral_more n (omega arith))))
+-- the last digit after those before it, and the one digit of a number
+pub put_last_digit : (column front s : List ℕ) (n : ℕ) → 9 < n → length (s ++ numeral n) ≤ length column → front ≡ padded (length (take (length column - 1) (set column (length column - 1) (48 + n % 10)))) (s ++ numeral (n / 10)) → front ++ drop (length column - 1) (set column (length column - 1) (48 + n % 10)) ≡ padded (length column) (s ++ numeral n)
+put_last_digit column front s n large room is =
+    let last : List ℕ = (48 + n % 10) ∷ [] in
+    let all : (s ++ numeral (n / 10)) ++ last ≡ s ++ numeral n = append_assoc s (numeral (n / 10)) last ∙ ap (λ (ds : List ℕ). s ++ ds) (sym (numeral_more n (omega arith))) in
+    put_last column front (s ++ numeral (n / 10)) (48 + n % 10) (omega (arith, front_shorter s n large)) is ∙ ap (padded (length column)) all
 
-pub put_one_digit : (s : List ℕ) (n b : ℕ) → n ≤ 9 → b ≡ 48 + n % 10 → s ++ (b ∷ []) ≡ s ++ numeral n
-put_one_digit s n b small is =
-    let digit : b ≡ 48 + n = omega arith in
-    rw digit (ap (λ (ds : List ℕ). s ++ ds) (sym (numeral_one n (omega arith))))
+pub put_one_digit : (column front s : List ℕ) (n : ℕ) → n ≤ 9 → length (s ++ numeral n) ≤ length column → front ≡ padded (length (take (length column - 1) (set column (length column - 1) (48 + n % 10)))) s → front ++ drop (length column - 1) (set column (length column - 1) (48 + n % 10)) ≡ padded (length column) (s ++ numeral n)
+put_one_digit column front s n small room is =
+    let digit : n % 10 ≡ n = omega arith in
+    let all : s ++ ((48 + n % 10) ∷ []) ≡ s ++ numeral n = rw digit (ap (λ (ds : List ℕ). s ++ ds) (sym (numeral_one n (omega arith)))) in
+    put_last column front s (48 + n % 10) (omega (arith, before_shorter s n)) is ∙ ap (padded (length column)) all
+
+pub ruleset last_digit = (before_shorter, front_shorter, length_front, put_last_digit, put_one_digit)
 
 -- a number that is small enough fits, where a byte is kept for the minus of one below 0
 pub fits_kept : (w kept : ℕ) (z : ℤ) → (IsTrue (is_negative z) → 0 < kept) → 0 < w → nat_abs z < 10 ^ (w - kept) → Fits w z

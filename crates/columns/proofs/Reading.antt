@@ -1,5 +1,5 @@
 -- The shortest decimal by what `parse` reads. Assumes nothing.
-use Rattle.std.proofs.Common.{◌≡◌, ℕ, zero, suc, ◌+◌, ◌-◌, ◌*◌, ◌^◌, ◌<◌, ◌≤◌, List, [], ◌∷◌, length, get_or, take, drop, ℤ, pos, negsuc, neg_ℤ, refl, sym, ap, ◌∙◌, subst, arith, inl, inr, w64, Option, Some, None, Result, Ok, Err, MatchOption, MatchResult}
+use Rattle.std.proofs.Common.{◌≡◌, ℕ, zero, suc, ◌+◌, ◌*◌, ◌^◌, ◌<◌, ◌≤◌, List, [], ◌∷◌, length, get_or, take, drop, ℤ, pos, negsuc, neg_ℤ, refl, sym, ap, ◌∙◌, arith, inl, inr, w64, Result, Ok, Err, MatchOption}
 use Rattle.std.specs.Int.{IsInRange}
 use Rattle.std.specs.Str.{IsAscii, IsUtf8}
 use Rattle.std.specs.Str.Parse.{digits_value, ParsesSigned}
@@ -11,7 +11,7 @@ use Rattle.std.proofs.lemmas.Int.Digits.{digits_value_more}
 use Rattle.std.proofs.lemmas.List.{take_more, take_all, length-take-le, length-drop, get_or_past, get_or-drop}
 use Rattle.std.proofs.lemmas.Str.Parse.{IsNumeralModel, numerals_by_value, tells_by_index, parse_signed_plain, parse_signed_minus, digits_value_short}
 use Rattle.columns.specs.Numerals.{digit_bytes, numeral, signed_numeral}
-use Rattle.columns.proofs.Numerals.{same_first, digit_bytes_more, digit_bytes_digit, digit_bytes_first, numeral_digit, numeral_first, numeral_some, numeral_no_zero}
+use Rattle.columns.proofs.Numerals.{same_first, digit_bytes_more, digit_bytes_first, numeral_digit, numeral_first, numeral_some, numeral_no_zero}
 
 abbrev Digits : List ℕ → Type 0
 Digits ds = (i : ℕ) → i < length ds → IsInRange 48 57 (get_or ds i 0)

@@ -1,5 +1,5 @@
 -- The shortest decimal of a number, in bytes. Assumes nothing.
-use Rattle.std.specs.Prelude.{ℕ, zero, suc, ◌+◌, Bool, cond, List, [], ◌∷◌, map, ℤ, pos, negsuc}
+use Rattle.std.specs.Prelude.{ℕ, zero, suc, ◌+◌, Bool, true, false, List, [], ◌∷◌, map, ℤ, pos, negsuc}
 use Rattle.std.specs.Int.Digits.{digits_of}
 
 abbrev pub minus_byte : ℕ
@@ -7,9 +7,6 @@ minus_byte = 45
 
 abbrev pub zero_byte : ℕ
 zero_byte = 48
-
-abbrev pub nine_byte : ℕ
-nine_byte = 57
 
 -- the digits of n from the highest down, and none for 0
 unfoldable pub digit_bytes : ℕ → List ℕ
@@ -27,4 +24,5 @@ signed_numeral (negsuc n) = minus_byte ∷ numeral (suc n)
 
 -- what stands before the digits: a minus where the number is below 0
 abbrev pub sign : Bool → List ℕ
-sign negative = cond negative (minus_byte ∷ []) []
+sign true = minus_byte ∷ []
+sign false = []

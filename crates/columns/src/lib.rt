@@ -1,7 +1,7 @@
 // Numbers in columns: the shortest decimal at the right, and blanks before it.
 #![tactic(auto)]
 
-ghost use Rattle.std.specs.Prelude.{◌≡◌, ℕ, ◌+◌, ◌-◌, ◌^◌, ◌<◌, ◌≤◌, ◌++◌, length, ℤ, MatchOption, ◌≢◌, slice_index, unsigned_abs};
+ghost use Rattle.std.specs.Prelude.{◌≡◌, ◌+◌, ◌-◌, ◌^◌, ◌<◌, ◌≤◌, ◌++◌, length, ℤ, MatchOption, ◌≢◌, unsigned_abs};
 ghost use Rattle.columns.specs.Numerals.{sign, numeral, signed_numeral};
 ghost use Rattle.columns.specs.Columns.{widest, padded, column, Shows, Reads, NumeralAt, past_blanks};
 ghost use Rattle.columns.specs.Put.{put};
@@ -23,6 +23,7 @@ const PLUS: u8 = b'+';
 pub const WIDEST: usize = 18;
 
 // Puts blanks, and at their end a minus where the number is below 0.
+#[tactic(auto, using(crate::proofs::Putting::put_minus, crate::proofs::Putting::put_no_minus))]
 fn put_sign(before: &mut [u8], negative: bool)
     requires { length (sign negative) ≤ length before.old }
     ensures { before.new ≡ padded (length before.old) (sign negative) }
@@ -34,6 +35,7 @@ fn put_sign(before: &mut [u8], negative: bool)
 }
 
 // Puts the digits of a size at the right of a column, from the last to the first, and the sign before them.
+#[tactic(auto, using(crate::proofs::Putting::last_digit))]
 fn put_numeral(column: &mut [u8], negative: bool, size: u64)
     requires { length (sign negative ++ numeral size) ≤ length column.old }
     ensures { column.new ≡ padded (length column.old) (sign negative ++ numeral size) }
@@ -48,6 +50,7 @@ fn put_numeral(column: &mut [u8], negative: bool, size: u64)
 }
 
 // Puts a number into the column of `width` bytes at a place of `out`, and answers the next place.
+#[tactic(auto, using(crate::proofs::Putting::fits_kept, crate::proofs::Putting::by_sign, crate::proofs::Putting::put_place))]
 pub fn put_number<N: Numeral>(out: &mut [u8], at: usize, width: usize, n: N) -> usize
     requires room { at + width ≤ length out.old }
     requires fits { (0 < width) × (unsigned_abs (N.number n) < 10 ^ (width - N.sign_width)) }
@@ -61,6 +64,7 @@ pub fn put_number<N: Numeral>(out: &mut [u8], at: usize, width: usize, n: N) -> 
 }
 
 // The bytes of a column past its leading blanks.
+#[tactic(auto, using(crate::proofs::Columns::past_one, crate::proofs::Columns::past_none))]
 fn past_blanks(column: &[u8]) -> &[u8]
     ensures { result.now ≡ past_blanks column.now }
 {
@@ -84,10 +88,11 @@ fn read_numeral(bytes: &[u8]) -> Option<i64>
 }
 
 // The bytes of the column at a place, past its blanks, and the next place; nothing where the text has no such column.
+#[tactic(auto, using(crate::proofs::Columns::shows_within, crate::proofs::Columns::numeral_found))]
 fn numeral_at(text: &[u8], at: usize, width: usize) -> Option<(&[u8], usize)>
     ensures { MatchOption result ((z : ℤ) → Shows text.now at width z → ⊥) (λ x. NumeralAt text.now at width x.0.now × (x.1 ≡ at + width)) }
 {
-    // `checked_add` and `get` are no plainer: only a test of the length tells the proof that the next place is a number.
+    // By `checked_add` and `get` the proof does not close: it knows that a place is a `usize` only from `text.len()`.
     if width > WIDEST || at > text.len() || width > text.len() - at {
         return None;
     }
@@ -96,6 +101,7 @@ fn numeral_at(text: &[u8], at: usize, width: usize) -> Option<(&[u8], usize)>
 }
 
 // The number in the column of `width` bytes at a place of a text, and the next place.
+#[tactic(auto, using(crate::proofs::Columns::shows_same))]
 pub fn read_number<N: Numeral>(text: &[u8], at: usize, width: usize) -> Option<(N, usize)>
     ensures { Reads N.number text.now at width result }
 {
@@ -105,6 +111,7 @@ pub fn read_number<N: Numeral>(text: &[u8], at: usize, width: usize) -> Option<(
 }
 
 // What holds of every column.
+#[tactic(auto, using(crate::proofs::Columns::column_same, crate::proofs::Columns::length_column, crate::proofs::Columns::put_shows))]
 pub fn columns_are_exact()
     ensures one { OneNumber }
     ensures width { ExactWidth }

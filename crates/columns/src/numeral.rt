@@ -4,6 +4,7 @@ ghost use Rattle.std.specs.Int.{is_negative};
 ghost use Rattle.std.proofs.Common.{rules};
 
 pub trait Numeral: Copy {
+    // The whole number that a value is.
     ghost number: { Self → ℤ };
 
     // How many bytes of a column are kept for the minus.
@@ -18,6 +19,7 @@ pub trait Numeral: Copy {
     fn from_whole(z: i64) -> Option<Self>
         ensures { MatchOption result ((n : Self) → number n ≢ z) (λ n. number n ≡ z) };
 
+    // A type that has a number below 0 keeps a byte for its minus.
     ghost minus_fits: { (n : Self) → IsTrue (is_negative (number n)) → 0 < sign_width };
 }
 

@@ -31,7 +31,7 @@ pub enum Refusal {
 }
 
 impl Refusal {
-    // The number by which a refusal is told.
+    // The number by which a refusal is told. No call answers with it.
     pub fn number(self) -> u8
         ensures { result ≡ refusal_number self }
     {

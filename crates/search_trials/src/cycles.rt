@@ -1,25 +1,26 @@
 // Every simple cycle of a chart of at most three ports and four legs, looked at one by one.
 use charts::Leg;
-use costs::{Money, Rate};
+use costs::{CostKind, Money, Rate};
 
 // What the simple cycles of a chart tell.
-#[derive(Clone, Copy)]
+#[derive(Clone, Copy, Default)]
 pub struct Cycles {
     pub idle: bool,
     pub cheapest: Option<Rate<Money>>,
 }
 
 fn rate_of(legs: &[Leg<Money>]) -> Rate<Money> {
-    let mut dollars: i64 = 0;
-    let mut hours: u64 = 0;
-    for leg in legs {
-        dollars = dollars.wrapping_add(leg.cost.dollars);
-        hours = hours.saturating_add(leg.hours as u64);
-    }
-    Rate {
-        cost: Money { dollars },
-        hours,
-    }
+    let nothing = Rate {
+        cost: Money::zero(),
+        hours: 0,
+    };
+    legs.iter().fold(
+        nothing,
+        |sum, leg| Rate {
+            cost: sum.cost.plus(leg.cost),
+            hours: sum.hours.saturating_add(u64::from(leg.hours)),
+        },
+    )
 }
 
 // Whether the legs close, each reaching the port that the next one leaves, and leave no port twice.
@@ -37,48 +38,40 @@ fn is_cycle(legs: &[Leg<Money>]) -> bool {
     }
 }
 
-fn cheaper_of(best: Option<Rate<Money>>, new: Rate<Money>) -> Rate<Money> {
-    match best {
-        None => new,
-        Some(old) => if new.is_cheaper_than(old) { new } else { old },
+impl Cycles {
+    // The simple cycles among the legs of a table.
+    pub fn of(table: &[Option<Leg<Money>>]) -> Cycles {
+        let mut all = Cycles::default();
+        for a in table.iter().flatten() {
+            all.from_one(table, *a);
+        }
+        all
     }
-}
 
-// One list of legs more: if it is a cycle it counts.
-fn consider(cycles: Cycles, legs: &[Leg<Money>]) -> Cycles {
-    if !is_cycle(legs) {
-        return cycles;
+    fn from_one(&mut self, table: &[Option<Leg<Money>>], a: Leg<Money>) {
+        self.consider(&[a]);
+        for b in table.iter().flatten() {
+            self.from_two(table, a, *b);
+        }
     }
-    let rate = rate_of(legs);
-    Cycles {
-        idle: cycles.idle || rate.hours == 0,
-        cheapest: Some(cheaper_of(cycles.cheapest, rate)),
-    }
-}
 
-fn from_two(cycles: Cycles, legs: &[Leg<Money>], a: Leg<Money>, b: Leg<Money>) -> Cycles {
-    let mut all = consider(cycles, &[a, b]);
-    for c in legs {
-        all = consider(all, &[a, b, *c]);
+    fn from_two(&mut self, table: &[Option<Leg<Money>>], a: Leg<Money>, b: Leg<Money>) {
+        self.consider(&[a, b]);
+        for c in table.iter().flatten() {
+            self.consider(&[a, b, *c]);
+        }
     }
-    all
-}
 
-fn from_one(cycles: Cycles, legs: &[Leg<Money>], a: Leg<Money>) -> Cycles {
-    let mut all = consider(cycles, &[a]);
-    for b in legs {
-        all = from_two(all, legs, a, *b);
+    // One list of legs more: if it is a cycle it counts.
+    fn consider(&mut self, legs: &[Leg<Money>]) {
+        if !is_cycle(legs) {
+            return;
+        }
+        let rate = rate_of(legs);
+        self.idle |= rate.hours == 0;
+        self.cheapest = match self.cheapest {
+            Some(old) if !rate.is_cheaper_than(old) => Some(old),
+            _ => Some(rate),
+        };
     }
-    all
-}
-
-pub fn all_cycles(legs: &[Leg<Money>]) -> Cycles {
-    let mut all = Cycles {
-        idle: false,
-        cheapest: None,
-    };
-    for a in legs {
-        all = from_one(all, legs, *a);
-    }
-    all
 }

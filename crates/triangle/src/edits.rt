@@ -1,8 +1,9 @@
 // The four legs are entered in a written chart, and each refusal of the edits is tried.
-use super::legs::{dollars, enter_all, leg, tell_answer, tell_chart};
+use super::telling::{enter_legs, tell_answer};
 use charts::{Leg, WrittenChart};
 use costs::Money;
 use std::io;
+use triangle_facts::{Listing, legs_at, triangle_at};
 
 const FREE: Money = Money { dollars: 0 };
 
@@ -11,53 +12,37 @@ const DEAR: Money = Money {
 };
 
 fn refused_enters(rt: &impl Print, chart: &mut WrittenChart<Money>) -> io::Result<()> {
-    tell_answer(
-        rt,
-        "enter under 6, past the table",
-        chart.enter(6, leg(0, FREE)),
-    )?;
-    tell_answer(rt, "enter under 0 again", chart.enter(0, leg(0, FREE)))?;
-    let past = Leg {
-        from: 0,
-        to: 3,
-        hours: 1,
-        cost: FREE,
-    };
-    tell_answer(rt, "enter under 4 to port 3", chart.enter(4, past))?;
+    let [leg_0, ..] = legs_at([FREE; 4]);
+    let hour = Leg { hours: 1, ..leg_0 };
+    let past = Leg { to: 3, ..hour };
     let long = Leg {
-        from: 0,
-        to: 1,
         hours: 10_000,
-        cost: FREE,
+        ..hour
     };
-    tell_answer(rt, "enter under 4 with 10000 hours", chart.enter(4, long))?;
-    let dear = Leg {
-        from: 0,
-        to: 1,
-        hours: 1,
-        cost: DEAR,
-    };
-    tell_answer(
-        rt,
-        "enter under 4 at 1000000000 dollars",
-        chart.enter(4, dear),
-    )
+    let dear = Leg { cost: DEAR, ..hour };
+    for (call, n, leg) in [
+        ("enter under 6, past the table", 6, leg_0),
+        ("enter under 0 again", 0, leg_0),
+        ("enter under 4 to port 3", 4, past),
+        ("enter under 4 with 10000 hours", 4, long),
+        ("enter under 4 at 1000000000 dollars", 4, dear),
+    ] {
+        tell_answer(rt, call, chart.enter(n, leg))?;
+    }
+    Ok(())
 }
 
 fn other_refused_edits(rt: &impl Print, chart: &mut WrittenChart<Money>) -> io::Result<()> {
     tell_answer(rt, "withdraw 4, a blank", chart.withdraw(4))?;
     tell_answer(rt, "withdraw 6, past the table", chart.withdraw(6))?;
-    tell_answer(rt, "reprice 4, a blank", chart.reprice(4, 1, FREE))?;
-    tell_answer(
-        rt,
-        "reprice 1 to 10000 hours",
-        chart.reprice(1, 10_000, FREE),
-    )?;
-    tell_answer(
-        rt,
-        "reprice 1 to 1000000000 dollars",
-        chart.reprice(1, 20, DEAR),
-    )
+    for (call, n, hours, cost) in [
+        ("reprice 4, a blank", 4, 1, FREE),
+        ("reprice 1 to 10000 hours", 1, 10_000, FREE),
+        ("reprice 1 to 1000000000 dollars", 1, 20, DEAR),
+    ] {
+        tell_answer(rt, call, chart.reprice(n, hours, cost))?;
+    }
+    Ok(())
 }
 
 fn edits_done(rt: &impl Print, chart: &mut WrittenChart<Money>) -> io::Result<()> {
@@ -71,16 +56,11 @@ fn edits_done(rt: &impl Print, chart: &mut WrittenChart<Money>) -> io::Result<()
 
 pub fn run(rt: &impl Print) -> io::Result<()> {
     println!(rt; "A chart of 3 ports over a table of 6 places:")?;
-    let mut table: [Option<Leg<Money>>; 6] = [None; 6];
-    let mut chart = WrittenChart::open(3, &mut table);
-    tell_answer(
-        rt,
-        "enter legs 0 to 3",
-        enter_all(&mut chart, &dollars(300)),
-    )?;
+    let mut table = [None; 6];
+    let mut chart = enter_legs(rt, &mut table, &triangle_at(300))?;
     refused_enters(rt, &mut chart)?;
     other_refused_edits(rt, &mut chart)?;
     edits_done(rt, &mut chart)?;
     println!(rt; "The chart then shows:")?;
-    tell_chart(rt, &chart)
+    print!(rt; "{}", Listing(&chart))
 }

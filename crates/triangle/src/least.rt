@@ -1,9 +1,11 @@
 // The least round of the triangle, as it is found, and the marks of the ports against it.
-use super::legs::{dollars, enter_all, tell_answer, tell_numbers};
-use charts::{Chart, Closures, Layered, Leg, WrittenChart};
-use costs::Money;
-use search::{Held, clear_area, find_least};
+use super::piles::port_2_closed;
+use super::telling::{enter_legs, tell_answer, tell_numbers};
+use charts::{Chart, Layered, Leg, WrittenChart};
+use costs::{Money, Rate};
+use search::{clear_area, find_least};
 use std::io;
+use triangle_facts::triangle_at;
 
 fn tell_marks(rt: &impl Print, marks: &[Money]) -> io::Result<()> {
     print!(rt; "  marks")?;
@@ -16,16 +18,14 @@ fn tell_marks(rt: &impl Print, marks: &[Money]) -> io::Result<()> {
 // A round and its rate, and the marks against it.
 fn tell_found(
     rt: &impl Print,
-    held: Held<Money>,
+    rate: Rate<Money>,
     round: &[u16],
     marks: &[Money],
 ) -> io::Result<()> {
+    let Rate { cost, hours } = rate;
     print!(rt; "  least round")?;
-    tell_numbers(rt, round, held.legs)?;
-    println!(rt;
-        ", {} dollars in {} hours",
-        held.rate.cost.dollars, held.rate.hours
-    )?;
+    tell_numbers(rt, round)?;
+    println!(rt; ", {cost} in {hours} hours")?;
     tell_marks(rt, marks)
 }
 
@@ -35,38 +35,36 @@ fn tell_least(rt: &impl Print, chart: &impl Chart<Cost = Money>) -> io::Result<(
     let mut numbers = [0; 12];
     let mut round = [0; 3];
     match find_least(chart, &mut costs, &mut numbers, &mut round) {
-        Ok(held) => tell_found(rt, held, &round, &costs[0..3])?,
-        Err(refusal) => println!(rt; "  refused, {}", refusal.number())?,
+        Ok(held) => tell_found(rt, held.rate, &round[..held.legs.min(3)], &costs[..3])?,
+        Err(refusal) => println!(rt; "  {refusal}")?,
     }
     clear_area(3, &mut costs, &mut numbers);
     Ok(())
 }
 
 fn tell_closed(rt: &impl Print, chart: &impl Chart<Cost = Money>) -> io::Result<()> {
-    let mut closed = [false; 256];
-    closed[2] = true;
     println!(rt; "  port 2 closed")?;
-    tell_least(rt, &Layered::new(chart, Closures::new(closed)))
+    tell_least(rt, &Layered::new(chart, port_2_closed()))
 }
 
-fn reprice_leg_1(
-    rt: &impl Print,
-    chart: &mut WrittenChart<Money>,
-    call: &str,
-    dollars: i64,
-) -> io::Result<()> {
-    tell_answer(rt, call, chart.reprice(1, 20, Money { dollars }))
+fn reprice_leg_1(rt: &impl Print, chart: &mut WrittenChart<Money>, dollars: i64) -> io::Result<()> {
+    let cost = Money { dollars };
+    tell_answer(
+        rt,
+        format_args!("reprice 1 to {cost}"),
+        chart.reprice(1, 20, cost),
+    )
 }
 
 // The triangle with leg 1 at its price, then level, then one dollar cheaper, then with port 2 closed.
 fn priced_anew(rt: &impl Print, chart: &mut WrittenChart<Money>) -> io::Result<()> {
     println!(rt; "Searching the chart:")?;
     tell_least(rt, chart)?;
-    reprice_leg_1(rt, chart, "reprice 1 to 0 dollars", 0)?;
-    tell_least(rt, chart)?;
-    reprice_leg_1(rt, chart, "reprice 1 to -1 dollars", -1)?;
-    tell_least(rt, chart)?;
-    reprice_leg_1(rt, chart, "reprice 1 to 300 dollars", 300)?;
+    for dollars in [0, -1] {
+        reprice_leg_1(rt, chart, dollars)?;
+        tell_least(rt, chart)?;
+    }
+    reprice_leg_1(rt, chart, 300)?;
     tell_closed(rt, chart)
 }
 
@@ -91,14 +89,9 @@ fn without_a_way_back(rt: &impl Print, chart: &mut WrittenChart<Money>) -> io::R
 }
 
 pub fn run(rt: &impl Print) -> io::Result<()> {
-    let mut table: [Option<Leg<Money>>; 4] = [None; 4];
-    let mut chart = WrittenChart::open(3, &mut table);
+    let mut table = [None; 4];
     println!(rt; "The least round:")?;
-    tell_answer(
-        rt,
-        "enter legs 0 to 3",
-        enter_all(&mut chart, &dollars(300)),
-    )?;
+    let mut chart = enter_legs(rt, &mut table, &triangle_at(300))?;
     priced_anew(rt, &mut chart)?;
     without_a_way_back(rt, &mut chart)
 }

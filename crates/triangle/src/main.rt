@@ -4,9 +4,9 @@
 mod edges;
 mod edits;
 mod least;
-mod legs;
 mod piles;
 mod rates;
+mod telling;
 mod texts;
 
 use std::io;

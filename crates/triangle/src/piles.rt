@@ -7,13 +7,14 @@ ghost use Rattle.charts.specs.Meaning.{shown_at};
 ghost use Rattle.charts.specs.Reading.{entry_shown};
 ghost use Rattle.charts.specs.Stays.{all_short};
 ghost use Rattle.charts.specs.Layers.{layered, with_stay, unless_closed, with_hire};
+ghost use Rattle.triangle_facts.specs.Triangle.{dollars, only_port_2};
+ghost use Rattle.triangle_facts.specs.Triangle.{stay_in_port_0 as stay_there};
 
-use super::legs::{
-    LONG_ROUND, SHORT_ROUND, dollars, enter_all, tell_answer, tell_entry, tell_round,
-};
-use charts::{Chart, Closures, Entry, Hire, Layered, Leg, Stays, WrittenChart};
+use super::telling::{enter_legs, tell_round};
+use charts::{Chart, Closures, Entry, Hire, Layered, Stays};
 use costs::Money;
 use std::io;
+use triangle_facts::{LONG_ROUND, SHORT_ROUND, triangle_at};
 
 // Closures on stays on hire on any chart in dollars.
 type HireBeneath<C> = Layered<Layered<Layered<C, Hire<Money>>, Stays>, Closures>;
@@ -45,13 +46,17 @@ fn entry_on_top<C: Chart<Cost = Money>>(pile: &HireOnTop<C>, n: usize) -> Entry<
 }
 
 // Ten hours in port 0, and none elsewhere.
-fn stay_in_port_0() -> Stays {
+fn stay_in_port_0() -> Stays
+    ensures { result.hours ≡ stay_there }
+{
     let mut hours = [0; 256];
     hours[0] = 10;
     Stays::new(hours)
 }
 
-fn port_2_closed() -> Closures {
+pub fn port_2_closed() -> Closures
+    ensures { result.closed ≡ only_port_2 }
+{
     let mut closed = [false; 256];
     closed[2] = true;
     Closures::new(closed)
@@ -61,7 +66,9 @@ fn none_closed() -> Closures {
     Closures::new([false; 256])
 }
 
-fn hire_of_5() -> Hire<Money> {
+fn hire_of_5() -> Hire<Money>
+    ensures { one_place result.cost.dollars ≡ dollars 5 }
+{
     Hire::new(Money { dollars: 5 })
 }
 
@@ -74,7 +81,7 @@ fn tell_hire_on_top(rt: &impl Print, chart: &impl Chart<Cost = Money>) -> io::Re
     println!(rt; "Hire of 5 dollars an hour on top of it:")?;
     let stays = Layered::new(Layered::new(chart, none_closed()), stay_in_port_0());
     let pile = Layered::new(stays, hire_of_5());
-    tell_entry(rt, 3, entry_on_top(&pile, 3))?;
+    println!(rt; "  3: {}", entry_on_top(&pile, 3))?;
     tell_round(rt, &pile, &LONG_ROUND)
 }
 
@@ -82,26 +89,21 @@ fn tell_hire_beneath(rt: &impl Print, chart: &impl Chart<Cost = Money>) -> io::R
     println!(rt; "Hire of 5 dollars an hour beneath it:")?;
     let stays = Layered::new(Layered::new(chart, hire_of_5()), stay_in_port_0());
     let pile = Layered::new(stays, none_closed());
-    tell_entry(rt, 3, entry_beneath(&pile, 3))?;
+    println!(rt; "  3: {}", entry_beneath(&pile, 3))?;
     tell_round(rt, &pile, &LONG_ROUND)
 }
 
 fn tell_closed(rt: &impl Print, chart: &impl Chart<Cost = Money>) -> io::Result<()> {
     println!(rt; "Port 2 closed:")?;
     let pile = Layered::new(chart, port_2_closed());
-    tell_entry(rt, 2, pile.entry(2))?;
+    println!(rt; "  2: {}", pile.entry(2))?;
     tell_round(rt, &pile, &SHORT_ROUND)
 }
 
 pub fn run(rt: &impl Print) -> io::Result<()> {
-    let mut table: [Option<Leg<Money>>; 4] = [None; 4];
-    let mut chart = WrittenChart::open(3, &mut table);
+    let mut table = [None; 4];
     println!(rt; "The triangle under layers:")?;
-    tell_answer(
-        rt,
-        "enter legs 0 to 3",
-        enter_all(&mut chart, &dollars(300)),
-    )?;
+    let chart = enter_legs(rt, &mut table, &triangle_at(300))?;
     tell_stay(rt, &chart)?;
     tell_hire_on_top(rt, &chart)?;
     tell_hire_beneath(rt, &chart)?;

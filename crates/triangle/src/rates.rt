@@ -1,9 +1,11 @@
 // The rates of the two rounds of the triangle, priced through a chart and compared by multiplying across.
-use super::legs::{LONG_ROUND, SHORT_ROUND, dollars, enter_all, tell_answer, tell_round};
-use charts::{Chart, Leg, WrittenChart};
-use costs::{CostKind, Money, MoneyTonnes, Rate};
+use super::telling::{enter_legs, tell_round};
+use charts::Leg;
+use costs::{CostKind, Rate};
 use pricing::total;
+use std::fmt::Display;
 use std::io;
+use triangle_facts::{LONG_ROUND, SHORT_ROUND, triangle_at, triangle_with_tonnes};
 
 fn tell_cheaper<K: CostKind>(rt: &impl Print, short: Rate<K>, long: Rate<K>) -> io::Result<()> {
     if short.is_cheaper_than(long) {
@@ -15,75 +17,24 @@ fn tell_cheaper<K: CostKind>(rt: &impl Print, short: Rate<K>, long: Rate<K>) -> 
     }
 }
 
-fn tell_rounds(rt: &impl Print, chart: &impl Chart<Cost = Money>) -> io::Result<()> {
-    tell_round(rt, chart, &SHORT_ROUND)?;
-    tell_round(rt, chart, &LONG_ROUND)?;
-    tell_cheaper(rt, total(chart, &SHORT_ROUND), total(chart, &LONG_ROUND))
+// The two rounds of a chart of these legs, over a table.
+fn tell_rounds<K: CostKind + Display>(
+    rt: &impl Print,
+    table: &mut [Option<Leg<K>>],
+    legs: &[Leg<K>],
+) -> io::Result<()> {
+    let chart = enter_legs(rt, table, legs)?;
+    tell_round(rt, &chart, &SHORT_ROUND)?;
+    tell_round(rt, &chart, &LONG_ROUND)?;
+    tell_cheaper(rt, total(&chart, &SHORT_ROUND), total(&chart, &LONG_ROUND))
 }
 
-// The two rounds in dollars, with leg 1 at this price.
-fn in_dollars(rt: &impl Print, leg_1: i64) -> io::Result<()> {
-    println!(rt; "Leg 1 costs {leg_1} dollars:")?;
-    let mut table: [Option<Leg<Money>>; 4] = [None; 4];
-    let mut chart = WrittenChart::open(3, &mut table);
-    tell_answer(
-        rt,
-        "enter legs 0 to 3",
-        enter_all(&mut chart, &dollars(leg_1)),
-    )?;
-    tell_rounds(rt, &chart)
-}
-
-// What the legs cost where leg 1 costs no dollars, and the tonnes that they burn.
-fn dollars_and_tonnes() -> [MoneyTonnes; 4] {
-    [
-        MoneyTonnes {
-            dollars: -1_200,
-            tonnes: 40,
-        },
-        MoneyTonnes {
-            dollars: 0,
-            tonnes: 20,
-        },
-        MoneyTonnes {
-            dollars: -600,
-            tonnes: 30,
-        },
-        MoneyTonnes {
-            dollars: -600,
-            tonnes: 60,
-        },
-    ]
-}
-
-fn tell_tonnes(rt: &impl Print, round: &str, rate: Rate<MoneyTonnes>) -> io::Result<()> {
-    let Rate { cost, hours } = rate;
-    println!(rt;
-        "  round {round} costs {} dollars and {} tonnes in {hours} hours",
-        cost.dollars, cost.tonnes
-    )
-}
-
-// Level in dollars, so that the tonnes decide.
-fn in_dollars_then_tonnes(rt: &impl Print) -> io::Result<()> {
-    println!(rt; "Leg 1 costs 0 dollars, and the legs burn 40, 20, 30 and 60 tonnes:")?;
-    let mut table: [Option<Leg<MoneyTonnes>>; 4] = [None; 4];
-    let mut chart = WrittenChart::open(3, &mut table);
-    tell_answer(
-        rt,
-        "enter legs 0 to 3",
-        enter_all(&mut chart, &dollars_and_tonnes()),
-    )?;
-    let short = total(&chart, &SHORT_ROUND);
-    let long = total(&chart, &LONG_ROUND);
-    tell_tonnes(rt, "0 1", short)?;
-    tell_tonnes(rt, "0 2 3", long)?;
-    tell_cheaper(rt, short, long)
-}
-
+// Leg 1 at three prices; and level in dollars, so that the tonnes decide.
 pub fn run(rt: &impl Print) -> io::Result<()> {
-    in_dollars(rt, 300)?;
-    in_dollars(rt, 0)?;
-    in_dollars(rt, -1)?;
-    in_dollars_then_tonnes(rt)
+    for leg_1 in [300, 0, -1] {
+        println!(rt; "Leg 1 costs {leg_1} dollars:")?;
+        tell_rounds(rt, &mut [None; 4], &triangle_at(leg_1))?;
+    }
+    println!(rt; "Leg 1 costs 0 dollars, and the legs burn 40, 20, 30 and 60 tonnes:")?;
+    tell_rounds(rt, &mut [None; 4], &triangle_with_tonnes())
 }

@@ -2,3 +2,4 @@ pub mod Rounds
 pub mod Settled
 pub mod NoRound
 pub mod Figures
+pub mod Written

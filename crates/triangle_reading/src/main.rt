@@ -2,7 +2,6 @@
 #![tactic(auto)]
 
 mod damage;
-mod legs;
 
 use std::io;
 

@@ -1,5 +1,4 @@
-use Rattle.std.proofs.Common.{◌≡◌, length, get_or, drop, sym, ap, ◌∙◌, arith, rules}
-use Rattle.columns.specs.Numerals.{signed_numeral}
+use Rattle.std.proofs.Common.{◌≡◌, arith, rules}
 use Rattle.columns.proofs.Reading.{Plain, parsed, not_text, plus_none, zero_none, minus_zero_none}
 use Rattle.columns.proofs.read_numeral.Goals as goal
 
