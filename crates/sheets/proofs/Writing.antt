@@ -1,11 +1,11 @@
 -- Bytes written one after the other, and how long they are. Assumes nothing.
-use Rattle.std.proofs.Common.{◌≡◌, ℕ, zero, suc, ◌+◌, ◌-◌, ◌*◌, ◌^◌, ◌<◌, ◌≤◌, List, [], ◌++◌, length, ℤ, pos, nat_abs, refl, sym, ap, ◌∙◌, mul-zero, mul-suc, add-one, arith}
-use Rattle.std.proofs.lemmas.List.{length-append}
+use Rattle.std.proofs.Common.{◌≡◌, ℕ, zero, suc, ◌+◌, ◌-◌, ◌*◌, ◌^◌, ◌<◌, ◌≤◌, List, [], ◌++◌, length, take, drop, ℤ, pos, nat_abs, refl, sym, ap, ◌∙◌, mul-zero, mul-suc, add-one, arith}
+use Rattle.std.proofs.lemmas.List.{length-append, take-append-drop}
 use Rattle.rows.specs.Rows.{Row, place}
 use Rattle.columns.specs.Columns.{column}
 use Rattle.columns.specs.Put.{put}
 use Rattle.columns.proofs.Columns.{fits_unsigned, fits_signed, length_column}
-use Rattle.columns.proofs.Puts.{put_none, put_after}
+use Rattle.columns.proofs.Puts.{put_after}
 use Rattle.sheets.specs.declared.lines.LineWriter.{LineWriter}
 use Rattle.sheets.specs.Places.{largest}
 use Rattle.sheets.specs.Form.{place_columns}
@@ -29,6 +29,10 @@ unfolding place_columns
 length_places w zero r some s = sym (mul-zero w)
 length_places w (suc n) r some s =
     length-append (place_columns w n r) (column w (place r n)) ∙ omega (arith, mul-suc w n, length_places w n r some s, length_signed w (place r n) some (omega (arith, place_small r n)))
+
+put_none : (d : List ℕ) (at : ℕ) → d ≡ put d at []
+unfolding put
+put_none d at = sym (ap (λ (n : ℕ). take at d ++ drop n d) (omega arith) ∙ take-append-drop at d)
 
 pub puts_none : (w : LineWriter) → Puts w w [] 0
 puts_none w = record { same_buffer = refl; same_length = refl; wrote = put_none w.out.now w.at; counted = refl; next = omega arith }
