@@ -18,13 +18,13 @@ program() {
 
 use charts::Leg;
 use costs::Money;
-use sheets::{BegunSheet, Closing, Form};
+use sheets::{BegunSheet, Form, NumberedLeg};
 
-fn use_sheet(out: &mut [u8], leg: Leg<Money>) {
+fn use_sheet(out: &mut [u8], leg: NumberedLeg<Money>) {
     let Ok(mut sheet) = BegunSheet::<Money>::begin(Form::Chart, 2, out) else {
         return;
     };
-    let put = sheet.leg(out, 0, leg);
+    let put = sheet.leg(out, leg);
     $1
 }
 
@@ -35,7 +35,7 @@ fn main() {
         hours: 1,
         cost: Money { dollars: 1 },
     };
-    use_sheet(&mut [0; 100], leg);
+    use_sheet(&mut [0; 100], NumberedLeg { number: 0, leg });
 }
 END
 }
@@ -62,8 +62,8 @@ refused() {
 
 program 'let _ = put;
     match sheet.close(out) {
-        Closing::Closed(_) => {}
-        Closing::Short(begun) => begun.strike(out),
+        Ok(_) => {}
+        Err(begun) => begun.strike(out),
     }'
 if check_program; then
     echo "misuse: a sheet that is closed or struck: proved"
@@ -82,24 +82,24 @@ refused 'a begun sheet forgotten where a line is refused' linear-value-let-go 'i
     sheet.strike(out);'
 
 refused 'a begun sheet forgotten where closing hands it back' linear-value-let-go 'let _ = put;
-    if let Closing::Closed(closed) = sheet.close(out) {
+    if let Ok(closed) = sheet.close(out) {
         let _length = closed.length();
     }'
 
 refused 'a leg line on a closed sheet' unknown-method 'let _ = put;
     match sheet.close(out) {
-        Closing::Closed(mut closed) => {
-            let _ = closed.leg(out, 1, leg);
+        Ok(mut closed) => {
+            let _ = closed.leg(out, leg);
         }
-        Closing::Short(begun) => begun.strike(out),
+        Err(begun) => begun.strike(out),
     }'
 
 refused 'a leg line after closing' borrow-e0382 'let _ = put;
     let closing = sheet.close(out);
-    let _ = sheet.leg(out, 1, leg);
+    let _ = sheet.leg(out, leg);
     match closing {
-        Closing::Closed(_) => {}
-        Closing::Short(begun) => begun.strike(out),
+        Ok(_) => {}
+        Err(begun) => begun.strike(out),
     }'
 
 exit $failed

@@ -1,5 +1,5 @@
 pub mod Numerals
 pub mod Columns
 pub mod Puts
-mod Putting
+pub mod Putting
 mod Reading

@@ -7,6 +7,7 @@ use Rattle.rows.specs.Rows.{Row, Narrow}
 use Rattle.rows.specs.Kinds.{Kind}
 use Rattle.columns.proofs.Columns.{shows_same}
 use Rattle.sheets.specs.Form.{end_letter, Sheet, end_line, end_length, sheet_bytes, summed_hours, summed_cost}
+use Rattle.sheets.specs.declared.tally.Tally.{Tally}
 use Rattle.sheets.specs.Begun.{Begun, tallied}
 use Rattle.sheets.specs.Writing.{numbers_of}
 use Rattle.sheets.proofs.Sums.{rows_same}
@@ -14,10 +15,8 @@ use Rattle.sheet_texts.specs.Columns.{EndColumns}
 use Rattle.sheet_texts.specs.Faults.{Limits, Readable, FaultAt, front_bytes, last_line}
 use Rattle.sheet_texts.proofs.Lines.{end_columns_line, end_columns_long}
 use Rattle.sheet_texts.proofs.Same.{last_line_columns, summed_narrow}
-use Rattle.sheet_reader.specs.declared.reader.Reader.{Reader}
-use Rattle.sheet_reader.specs.declared.reader.Wants.TheVariants.{Legs, Ended}
-use Rattle.sheet_reader.specs.Reading.{InLegs, AtEnd, Stands, Advances, Stops}
-use Rattle.sheet_reader.proofs.HeadLines.{stands_as}
+use Rattle.sheet_reader.specs.declared.reader.Reader.TheVariants.{Legs, Ended}
+use Rattle.sheet_reader.specs.Reading.{InLegs, AtEnd, Advances, Stops}
 use Rattle.sheet_reader.proofs.LegLines.{no_leg_line}
 
 -- an end line shows one count and one sum
@@ -28,28 +27,24 @@ end_columns_same {n = n} {c = c} {d = d} narrow_c narrow_d x y = (
   rows_same n c d (λ i below. shows_same (x.cost_shown i below) (y.cost_shown i below)) narrow_c narrow_d,
 )
 
-module _ (k : Kind) (m : Limits) (cols : List ℕ) (r : Reader) (wants : r.wants ≡ Legs) where
+module _ (k : Kind) (m : Limits) (cols : List ℕ) (t : Tally) where
   -- the numbers of an end line are those of the lines before it
   abbrev HasSums : ℕ → ℕ → Row → Type 0
-  HasSums legs hours cost = (legs ≡ (tallied r.tally).legs) × (hours ≡ (tallied r.tally).hours) × (cost ≡ (tallied r.tally).cost)
+  HasSums legs hours cost = (legs ≡ (tallied t).legs) × (hours ≡ (tallied t).hours) × (cost ≡ (tallied t).cost)
 
-  in_legs : (text : List ℕ) (line : ℕ) → Stands k m text r.wants (tallied r.tally) (end_letter ∷ cols) line → InLegs k m text (tallied r.tally) (end_letter ∷ cols) line
-  in_legs text line stands = stands_as k m text (tallied r.tally) (end_letter ∷ cols) line r.wants Legs wants stands
-
-  no_end : ((s : Sheet) (more : List ℕ) → Readable k m s → tallied r.tally ≡ numbers_of k.places s → end_letter ∷ cols ≡ last_line k.places s ++ more → ⊥)
-      → Stops k m r (end_letter ∷ cols) Malformed
-  no_end none text line _ stands =
-      let at = in_legs text line stands in
+  no_end : ((s : Sheet) (more : List ℕ) → Readable k m s → tallied t ≡ numbers_of k.places s → end_letter ∷ cols ≡ last_line k.places s ++ more → ⊥)
+      → Stops k m (Legs t) (end_letter ∷ cols) Malformed
+  no_end none text line _ at =
       subst (FaultAt k m text Malformed) (sym at.line_is)
       (FaultAt.no_line at.sheet (end_letter ∷ cols) at.readable at.front
       (λ l more _ is. no_leg_line k.places l end_letter cols more (λ same. omega (arith, same)) is)
       (λ more is. none at.sheet more at.readable at.numbers is))
 
-  pub end_malformed : k.places ≤ most_places → ((legs hours : ℕ) (cost : Row) → EndColumns k.places cols legs hours cost → ⊥) → Stops k m r (end_letter ∷ cols) Malformed
+  pub end_malformed : k.places ≤ most_places → ((legs hours : ℕ) (cost : Row) → EndColumns k.places cols legs hours cost → ⊥) → Stops k m (Legs t) (end_letter ∷ cols) Malformed
   end_malformed few none = no_end (λ s more readable _ is. none _ _ _ (last_line_columns k m s cols more few readable is))
 
   pub sums_differ : k.places ≤ most_places → (legs hours : ℕ) (cost : Row) → EndColumns k.places cols legs hours cost → Narrow k.places cost
-      → (HasSums legs hours cost → ⊥) → Stops k m r (end_letter ∷ cols) Malformed
+      → (HasSums legs hours cost → ⊥) → Stops k m (Legs t) (end_letter ∷ cols) Malformed
   sums_differ few legs hours cost h narrow differ = no_end (λ s more readable numbers is.
       let same = end_columns_same narrow (summed_narrow k m s readable) h (last_line_columns k m s cols more few readable is) in
       differ (
@@ -58,21 +53,16 @@ module _ (k : Kind) (m : Limits) (cols : List ℕ) (r : Reader) (wants : r.wants
         same.2 ∙ sym (ap (λ (b : Begun). b.cost) numbers),
       ))
 
-  pub end_taken : (r' : Reader) (legs hours : ℕ) (cost : Row) → EndColumns k.places cols legs hours cost → HasSums legs hours cost → r'.wants ≡ Ended → tallied r'.tally ≡ tallied r.tally
-      → Advances k m r r' (end_letter ∷ cols) (end_length k.places)
+  pub end_taken : (legs hours : ℕ) (cost : Row) → EndColumns k.places cols legs hours cost → HasSums legs hours cost
+      → Advances k m (Legs t) (Ended t) (end_letter ∷ cols) (end_length k.places)
   unfolding sheet_bytes
-  end_taken r' legs hours cost h sums ended numbers =
-      record {
-        some = omega arith;
-        within = end_columns_long k.places legs hours cost cols h;
-        stands = λ text line stands.
-            stands_as k m text (tallied r'.tally) left (line + 1) Ended r'.wants (sym ended) (whole text line (in_legs text line stands));
-      }
+  end_taken legs hours cost h sums =
+      record { some = omega arith; within = end_columns_long k.places legs hours cost cols h; stands = whole }
     where
       left : List ℕ
       left = drop (end_length k.places) (end_letter ∷ cols)
 
-      whole : (text : List ℕ) (line : ℕ) → InLegs k m text (tallied r.tally) (end_letter ∷ cols) line → AtEnd k m text (tallied r'.tally) left (line + 1)
+      whole : (text : List ℕ) (line : ℕ) → InLegs k m text (tallied t) (end_letter ∷ cols) line → AtEnd k m text (tallied t) left (line + 1)
       whole text line at =
           let n : ℕ = k.places in
           let s : Sheet = at.sheet in
@@ -83,7 +73,7 @@ module _ (k : Kind) (m : Limits) (cols : List ℕ) (r : Reader) (wants : r.wants
           record {
             sheet = s;
             readable = at.readable;
-            numbers = numbers ∙ at.numbers;
+            numbers = at.numbers;
             whole =
                 at.front ∙ ap (λ (rest : List ℕ). front_bytes n s ++ rest) (end_columns_line n legs hours cost cols h ∙ ap (λ (line : List ℕ). line ++ left) same)
                 ∙ sym (append_assoc (front_bytes n s) (last_line n s) left);

@@ -9,45 +9,33 @@ use Rattle.charts.specs.Limits.{port_count_refusal}
 use Rattle.columns.proofs.Columns.{shows_fits}
 use Rattle.sheets.specs.declared.form.Form.TheVariants.{Chart}
 use Rattle.sheets.specs.Form.{form_letter, Sheet, head_line, leg_lines, head_length, leg_length}
-use Rattle.sheets.specs.Begun.{Begun, tallied, opened}
+use Rattle.sheets.specs.declared.tally.Tally.{Tally}
+use Rattle.sheets.specs.Begun.{tallied, opened}
 use Rattle.sheets.proofs.Held.{numbers_same}
 use Rattle.sheets.proofs.Taken.{port_count_taken}
 use Rattle.sheet_texts.specs.Columns.{HeadColumns}
 use Rattle.sheet_texts.specs.Faults.{Limits, FaultAt}
 use Rattle.sheet_texts.proofs.Lines.{head_columns_line, head_line_columns, head_columns_long}
-use Rattle.sheet_reader.specs.declared.reader.Reader.{Reader}
-use Rattle.sheet_reader.specs.declared.reader.Wants.{Wants}
-use Rattle.sheet_reader.specs.declared.reader.Wants.TheVariants.{Head, Legs}
-use Rattle.sheet_reader.specs.Reading.{InLegs, Stands, Advances, Stops}
+use Rattle.sheet_reader.specs.declared.reader.Reader.TheVariants.{Head, Legs}
+use Rattle.sheet_reader.specs.Reading.{InLegs, Advances, Stops}
 
--- where a reader stands, by what it wants
-pub stands_as : (k : Kind) (m : Limits) (text : List ℕ) (b : Begun) (rest : List ℕ) (line : ℕ) (w v : Wants) → w ≡ v → Stands k m text w b rest line → Stands k m text v b rest line
-stands_as k m text b rest line w v same s = subst (λ (x : Wants). Stands k m text x b rest line) same s
-
-module _ (k : Kind) (m : Limits) (cols : List ℕ) (r : Reader) (wants : r.wants ≡ Head) where
-  pub head_malformed : k.places ≤ most_places → ((p : ℕ) → HeadColumns k.places cols p → ⊥) → Stops k m r (form_letter Chart ∷ cols) Malformed
-  head_malformed few none text line _ stands =
-      let at = stands_as k m text (tallied r.tally) (form_letter Chart ∷ cols) line r.wants Head wants stands in
+module _ (k : Kind) (m : Limits) (cols : List ℕ) where
+  pub head_malformed : k.places ≤ most_places → ((p : ℕ) → HeadColumns k.places cols p → ⊥) → Stops k m Head (form_letter Chart ∷ cols) Malformed
+  head_malformed few none text line _ at =
       subst (FaultAt k m text Malformed) (sym at.1) (FaultAt.no_head (λ p rest fits is. none p (head_line_columns k.places p cols rest few fits (at.0 ∙ is))))
 
-  pub head_refused : (p : ℕ) (e : Refusal) → HeadColumns k.places cols p → port_count_refusal (min m.ports most_ports) p ≡ Some e → Stops k m r (form_letter Chart ∷ cols) e
-  head_refused p e h why text line _ stands =
-      let at = stands_as k m text (tallied r.tally) (form_letter Chart ∷ cols) line r.wants Head wants stands in
+  pub head_refused : (p : ℕ) (e : Refusal) → HeadColumns k.places cols p → port_count_refusal (min m.ports most_ports) p ≡ Some e → Stops k m Head (form_letter Chart ∷ cols) e
+  head_refused p e h why text line _ at =
       subst (FaultAt k m text e) (sym at.1)
       (FaultAt.ports_refused p (drop head_length (form_letter Chart ∷ cols)) e (shows_fits h.ports_shown) (sym at.0 ∙ head_columns_line k.places p cols h) why)
 
-  pub head_taken : (r' : Reader) (p : ℕ) → HeadColumns k.places cols p → port_count_refusal (min m.ports most_ports) p ≡ None → r'.wants ≡ Legs → tallied r'.tally ≡ opened Chart p
-      → Advances k m r r' (form_letter Chart ∷ cols) head_length
+  pub head_taken : (t : Tally) (p : ℕ) → HeadColumns k.places cols p → port_count_refusal (min m.ports most_ports) p ≡ None → tallied t ≡ opened Chart p
+      → Advances k m Head (Legs t) (form_letter Chart ∷ cols) head_length
   unfolding leg_lines
-  head_taken r' p h none legs numbers =
-      record {
-        some = omega arith;
-        within = head_columns_long k.places p cols h;
-        stands = λ text line stands. stands_as k m text (tallied r'.tally) (drop head_length (form_letter Chart ∷ cols)) (line + 1) Legs r'.wants (sym legs)
-            (begun text line (stands_as k m text (tallied r.tally) (form_letter Chart ∷ cols) line r.wants Head wants stands));
-      }
+  head_taken t p h none numbers =
+      record { some = omega arith; within = head_columns_long k.places p cols h; stands = begun }
     where
-      begun : (text : List ℕ) (line : ℕ) → (form_letter Chart ∷ cols ≡ text) × (line ≡ 1) → InLegs k m text (tallied r'.tally) (drop head_length (form_letter Chart ∷ cols)) (line + 1)
+      begun : (text : List ℕ) (line : ℕ) → (form_letter Chart ∷ cols ≡ text) × (line ≡ 1) → InLegs k m text (tallied t) (drop head_length (form_letter Chart ∷ cols)) (line + 1)
       begun text line at =
           let count = port_count_taken (min m.ports most_ports) p none in
           let s : Sheet = record { form = Chart; ports = p; legs = [] } in

@@ -10,6 +10,7 @@ use Rattle.rows.specs.Kinds.{Kind}
 use Rattle.charts.specs.Limits.{leg_refusal}
 use Rattle.sheets.specs.Places.{largest}
 use Rattle.sheets.specs.Form.{leg_letter, Numbered, Sheet, head_line, leg_line, leg_lines, end_line, leg_length}
+use Rattle.sheets.specs.declared.tally.Tally.{Tally}
 use Rattle.sheets.specs.Begun.{Begun, tallied, with_leg, number_refusal_below}
 use Rattle.sheets.specs.Writing.{with_line, numbers_of}
 use Rattle.sheets.proofs.Held.{leg_lines_more, proper_more, numbers_more}
@@ -17,10 +18,8 @@ use Rattle.sheets.proofs.Taken.{either_none, number_taken, leg_taken}
 use Rattle.sheet_texts.specs.Columns.{LegColumns}
 use Rattle.sheet_texts.specs.Faults.{Limits, Readable, FaultAt, front_bytes, last_line, next_refusal, next_leg_refusal}
 use Rattle.sheet_texts.proofs.Lines.{leg_columns_line, leg_columns_fit, leg_line_columns, leg_columns_long}
-use Rattle.sheet_reader.specs.declared.reader.Reader.{Reader}
-use Rattle.sheet_reader.specs.declared.reader.Wants.TheVariants.{Legs}
-use Rattle.sheet_reader.specs.Reading.{InLegs, Stands, Advances, Stops}
-use Rattle.sheet_reader.proofs.HeadLines.{stands_as}
+use Rattle.sheet_reader.specs.declared.reader.Reader.TheVariants.{Legs}
+use Rattle.sheet_reader.specs.Reading.{InLegs, Advances, Stops}
 
 first_byte : {b c : ℕ} {bs cs : List ℕ} → b ∷ bs ≡ c ∷ cs → b ≡ c
 first_byte e = ap (λ (xs : List ℕ). get_or xs 0 0) e
@@ -54,13 +53,9 @@ readable_more k m s l limit readable narrow small none =
       numbers_below = All-push (λ (x : Numbered). x.number < m.numbers) s.legs l readable.numbers_below number.0;
     }
 
-module _ (k : Kind) (m : Limits) (cols : List ℕ) (r : Reader) (wants : r.wants ≡ Legs) where
-  in_legs : (text : List ℕ) (line : ℕ) → Stands k m text r.wants (tallied r.tally) (leg_letter ∷ cols) line → InLegs k m text (tallied r.tally) (leg_letter ∷ cols) line
-  in_legs text line stands = stands_as k m text (tallied r.tally) (leg_letter ∷ cols) line r.wants Legs wants stands
-
-  pub leg_malformed : ((l : Numbered) → LegColumns k.places cols l → ⊥) → Stops k m r (leg_letter ∷ cols) Malformed
-  leg_malformed none text line _ stands =
-      let at = in_legs text line stands in
+module _ (k : Kind) (m : Limits) (cols : List ℕ) (t : Tally) where
+  pub leg_malformed : ((l : Numbered) → LegColumns k.places cols l → ⊥) → Stops k m (Legs t) (leg_letter ∷ cols) Malformed
+  leg_malformed none text line _ at =
       subst (FaultAt k m text Malformed) (sym at.line_is)
       (FaultAt.no_line at.sheet (leg_letter ∷ cols) at.readable at.front
       (λ l more fits is. none l (leg_line_columns k.places l cols more fits is))
@@ -72,26 +67,20 @@ module _ (k : Kind) (m : Limits) (cols : List ℕ) (r : Reader) (wants : r.wants
   at_line l h at = at.front ∙ ap (λ (rest : List ℕ). front_bytes k.places at.sheet ++ rest) (leg_columns_line k.places l cols h)
 
   pub leg_refused : (l : Numbered) (e : Refusal) → LegColumns k.places cols l → Narrow k.places l.leg.cost
-      → next_refusal k m.numbers (tallied r.tally) l ≡ Some e → Stops k m r (leg_letter ∷ cols) e
-  leg_refused l e h narrow why text line _ stands =
-      let at = in_legs text line stands in
+      → next_refusal k m.numbers (tallied t) l ≡ Some e → Stops k m (Legs t) (leg_letter ∷ cols) e
+  leg_refused l e h narrow why text line _ at =
       subst (FaultAt k m text e) (sym at.line_is)
       (FaultAt.leg_refused at.sheet l (drop (leg_length k.places) (leg_letter ∷ cols)) e at.readable (leg_columns_fit k.places l cols h) narrow (at_line l h at)
       (subst (λ (b : Begun). next_refusal k m.numbers b l ≡ Some e) at.numbers why))
 
-  pub leg_line_taken : (r' : Reader) (l : Numbered) → m.numbers ≤ most_legs → LegColumns k.places cols l → Narrow k.places l.leg.cost → largest l.leg.cost ≤ most_cost
-      → next_refusal k m.numbers (tallied r.tally) l ≡ None
-      → r'.wants ≡ Legs → tallied r'.tally ≡ with_leg k.places (tallied r.tally) l → Advances k m r r' (leg_letter ∷ cols) (leg_length k.places)
-  leg_line_taken r' l limit h narrow small none legs numbers =
-      record {
-        some = omega arith;
-        within = leg_columns_long k.places l cols h;
-        stands = λ text line stands. stands_as k m text (tallied r'.tally) (drop (leg_length k.places) (leg_letter ∷ cols)) (line + 1) Legs r'.wants (sym legs)
-            (more text line (in_legs text line stands));
-      }
+  pub leg_line_taken : (t' : Tally) (l : Numbered) → m.numbers ≤ most_legs → LegColumns k.places cols l → Narrow k.places l.leg.cost → largest l.leg.cost ≤ most_cost
+      → next_refusal k m.numbers (tallied t) l ≡ None
+      → tallied t' ≡ with_leg k.places (tallied t) l → Advances k m (Legs t) (Legs t') (leg_letter ∷ cols) (leg_length k.places)
+  leg_line_taken t' l limit h narrow small none numbers =
+      record { some = omega arith; within = leg_columns_long k.places l cols h; stands = more }
     where
-      more : (text : List ℕ) (line : ℕ) → InLegs k m text (tallied r.tally) (leg_letter ∷ cols) line
-          → InLegs k m text (tallied r'.tally) (drop (leg_length k.places) (leg_letter ∷ cols)) (line + 1)
+      more : (text : List ℕ) (line : ℕ) → InLegs k m text (tallied t) (leg_letter ∷ cols) line
+          → InLegs k m text (tallied t') (drop (leg_length k.places) (leg_letter ∷ cols)) (line + 1)
       more text line at =
           let n : ℕ = k.places in
           let s : Sheet = at.sheet in

@@ -1,8 +1,8 @@
+mod Answering
 mod HeadLines
 mod LegLines
 mod EndLines
 mod OtherLines
-mod Clearing
 mod Placing
 mod Checked
 mod Placed

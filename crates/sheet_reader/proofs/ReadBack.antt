@@ -1,7 +1,7 @@
 -- What is read of a text is what it was written from. Assumes nothing.
 use Rattle.std.proofs.Common.{◌≡◌, ℕ, zero, suc, ◌<◌, ◌≤◌, List, [], ◌∷◌, ◌++◌, length, drop, replicate, None, Ok, Option, sym, refl, ap, ◌∙◌, subst, arith}
 use Rattle.std.specs.List.{AllByRecursion}
-use Rattle.std.proofs.lemmas.List.{append_assoc, drop_at}
+use Rattle.std.proofs.lemmas.List.{append_assoc, drop_at, length-append}
 use Rattle.limits.specs.Numbers.{most_ports, most_legs, most_places}
 use Rattle.rows.specs.Rows.{Row}
 use Rattle.rows.specs.Kinds.{Kind}
@@ -33,6 +33,16 @@ placeable_legs k form p least size (l ∷ ls) few proper below =
       },
       placeable_legs k form p (least_after form l.number) size ls few proper.1 below.1,
     )
+
+-- a whole sheet is no shorter than its first line
+pub head_long : (k : Kind) (m : Limits) (text : List ℕ) (b : Begun) → k.places ≤ most_places → Whole k m text b → head_length ≤ length text
+unfolding sheet_bytes
+head_long k m text b few w =
+    let n : ℕ = k.places in
+    let s : Sheet = w.sheet in
+    let head : List ℕ = head_line n s.form s.ports in
+    let lines : List ℕ = leg_lines n s.legs in
+    omega (arith, ap length w.whole, length-append (head ++ lines) (last_line n s), length-append head lines, length_head n s.form s.ports w.readable.proper.few_ports few)
 
 -- past the first line of a text come its leg lines
 pub lines_next : (k : Kind) (m : Limits) (text : List ℕ) (b : Begun) → k.places ≤ most_places → (w : Whole k m text b) (size : ℕ) (rest : List ℕ) → m.numbers ≡ size → rest ≡ drop head_length text

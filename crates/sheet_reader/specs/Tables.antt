@@ -10,8 +10,9 @@ use Rattle.charts.specs.Reading.{figures_of}
 use Rattle.charts.specs.declared.leg.Leg.{Leg}
 use Rattle.sheets.specs.declared.form.Form.TheVariants.{Chart}
 use Rattle.sheets.specs.Form.{Numbered, Sheet, leg_line, leg_lines, sheet_bytes}
-use Rattle.sheet_texts.specs.Faults.{Limits, Readable, LegFits, FaultAt}
+use Rattle.sheet_texts.specs.Faults.{Limits, Readable, LegFits}
 use Rattle.sheet_reader.specs.declared.fault.Fault.{Fault}
+use Rattle.sheet_reader.specs.Reading.{FaultIn}
 
 abbrev pub place_figures : {K : Type 0} → (K → Row) → Option (Leg K) → Option Figures
 place_figures row None = None
@@ -58,8 +59,8 @@ pub record LegsNext (k : Kind) (size legs : ℕ) (text : List ℕ) (ls : List Nu
 
 -- why a text is not read into a table of so many places: the table is too long, or else the first line at fault
 pub record Refused (k : Kind) (m : Limits) (text : List ℕ) (f : Fault) : Type 0 where
-  pub too_long : most_legs < m.numbers → f ≡ record { refusal = Length; line = 0 }
-  pub at_line : m.numbers ≤ most_legs → FaultAt k m text f.refusal f.line
+  pub too_long : most_legs < m.numbers → f ≡ record { refusal = Length; line = None }
+  pub at_line : m.numbers ≤ most_legs → FaultIn k m text f.refusal f.line
 
 -- a text of a chart of at most so many ports is read into a table
 pub record Reads {K : Type 0} (k : Kind) (row : K → Row) (most_ports_read : ℕ) (text : List ℕ) (table : List (Option (Leg K))) (r : Result ℕ Fault) (table' : List (Option (Leg K))) : Type 0 where

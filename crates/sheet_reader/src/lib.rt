@@ -4,6 +4,7 @@
 mod checking;
 mod fault;
 mod filling;
+mod line;
 mod reader;
 mod reading;
 

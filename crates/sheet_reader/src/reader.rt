@@ -2,21 +2,14 @@
 mod taking;
 
 use sheets::Tally;
-pub use taking::cost_of;
 
-#[derive(Clone, Copy, PartialEq, Eq)]
-pub enum Wants {
+// What is wanted next, with the tally of the lines so far.
+#[derive(Drop)]
+pub enum Reader {
     // the first line
     Head,
     // a leg line or the end line
-    Legs,
+    Legs(Tally),
     // nothing more
-    Ended,
-}
-
-#[derive(Drop)]
-pub struct Reader {
-    pub wants: Wants,
-    // of the lines so far; before the first line it counts nothing
-    pub tally: Tally,
+    Ended(Tally),
 }

@@ -1,13 +1,12 @@
 // Reading a chart sheet into a table.
-ghost use Rattle.std.specs.Prelude.{◌≡◌, ◌≤◌, length, Ok};
-ghost use Rattle.limits.specs.Numbers.{most_legs};
+ghost use Rattle.std.specs.Prelude.{◌≡◌, length, Ok};
 ghost use Rattle.sheets.specs.Begun.{tallied};
 ghost use Rattle.sheet_reader.specs.Reading.{limits_of, Whole};
 ghost use Rattle.sheet_reader.specs.Tables.{Reads};
 
 use crate::checking::check_text;
 use crate::fault::{Bounds, Fault};
-use crate::filling::{clear_table, past, place_legs};
+use crate::filling::place_legs;
 use charts::Leg;
 use costs::CostKind;
 use limits::MOST_LEGS;
@@ -23,11 +22,11 @@ fn fill_table<K: SheetKind>(
     table: &mut [Option<Leg<K>>],
 )
     requires checked { Whole K.CostKind.kind (limits_of bounds) text.now (tallied tally.now) }
-    requires size { (bounds.numbers ≡ length table.old) × (length table.old ≤ most_legs) }
+    requires size { bounds.numbers ≡ length table.old }
     ensures { Reads K.CostKind.kind K.CostKind.row bounds.ports text.now table.old (Ok tally.now.ports) table.new }
 {
-    clear_table(table);
-    place_legs(past(text, HEAD_LENGTH), tally.legs, table);
+    table.fill(None);
+    place_legs(&text[HEAD_LENGTH..], tally.legs, table);
 }
 
 // Puts each leg of the sheet under its number, makes every other place blank, and answers the ports of the chart.
@@ -42,18 +41,14 @@ pub fn read_sheet<K: SheetKind>(
     if table.len() > MOST_LEGS {
         return Err(Fault {
             refusal: Refusal::Length,
-            line: 0,
+            line: None,
         });
     }
     let bounds = Bounds {
         ports: most_ports,
         numbers: table.len(),
     };
-    match check_text::<K>(text, bounds) {
-        Err(fault) => Err(fault),
-        Ok(tally) => {
-            fill_table(text, &tally, bounds, table);
-            Ok(tally.ports)
-        }
-    }
+    let tally = check_text::<K>(text, bounds)?;
+    fill_table(text, &tally, bounds, table);
+    Ok(tally.ports)
 }

@@ -1,6 +1,7 @@
 -- The places of a cost, read one after the other. Assumes nothing.
-use Rattle.std.proofs.Common.{◌≡◌, ℕ, zero, suc, ◌+◌, ◌*◌, List, ℤ, pos, sym, refl, ◌∙◌, subst, ⊎_elim, mul-zero, mul-one, mul-add, arith}
+use Rattle.std.proofs.Common.{◌≡◌, ℕ, zero, suc, ◌+◌, ◌*◌, List, replicate, ℤ, pos, sym, refl, ◌∙◌, subst, ⊎_elim, mul-zero, mul-one, mul-add, arith}
 use Rattle.std.proofs.lemmas.Bool.{cases_lt}
+use Rattle.limits.specs.Numbers.{most_places}
 use Rattle.rows.specs.Rows.{place}
 use Rattle.columns.specs.Columns.{Shows}
 use Rattle.sheets.specs.declared.places.Places.{Places}
@@ -14,7 +15,7 @@ narrow_none (suc (suc zero)) = refl
 narrow_none (suc (suc (suc zero))) = refl
 narrow_none (suc (suc (suc (suc i)))) = refl
 
-pub read_none : (text : List ℕ) (at w : ℕ) → ReadPlaces text at w 0 (record { first = pos 0; second = pos 0; third = pos 0; fourth = pos 0 }) at
+pub read_none : (text : List ℕ) (at w : ℕ) → ReadPlaces text at w 0 (record { numbers = replicate most_places (pos 0) }) at
 read_none text at w =
     record { shown = λ i below. absurd (omega arith); narrow = λ i _. narrow_none i; next_is = omega (arith, mul-zero w) }
 

@@ -8,8 +8,8 @@ use Rattle.sheet_texts.specs.declared.line.LegLine.{LegLine}
 use Rattle.sheet_texts.specs.Columns.{ShowsPlaces}
 
 -- the leg of a line, and its number
-abbrev pub line_leg : LegLine → Numbered
-line_leg l = record { number = l.number; leg = record { from = l.from; to = l.to; hours = l.hours; cost = row_of l.cost } }
+abbrev pub line_leg : {C : Type 0} → (C → Row) → LegLine C → Numbered
+line_leg row l = record { number = l.number; leg = record { from = l.from; to = l.to; hours = l.hours; cost = row l.cost } }
 
 -- a row with another number in place i
 pub record Replaced (r : Row) (i : ℕ) (z : ℤ) (r' : Row) : Type 0 where

@@ -14,12 +14,13 @@ use sheets::form::{COST_WIDTH, HOURS_WIDTH, NUMBER_WIDTH, SUMMED_COST_WIDTH, SUM
 const LINE_FEED: u8 = b'\n';
 
 #[derive(Clone, Copy)]
-pub struct LegLine {
+pub struct LegLine<C> {
     pub number: u64,
     pub from: u64,
     pub to: u64,
     pub hours: u64,
-    pub cost: Places,
+    // the places that are read, or the cost of these places
+    pub cost: C,
 }
 
 #[derive(Clone, Copy)]
@@ -33,46 +34,16 @@ pub struct EndLine {
 fn ends_line(columns: &[u8], at: usize) -> bool
     ensures { Decides result (slice_index columns.now at ≡ line_feed) }
 {
-    at < columns.len() && columns[at] == LINE_FEED
+    columns.get(at) == Some(&LINE_FEED)
 }
 
 // The places with another number in place i.
-fn with_place(places: Places, i: usize, z: i64) -> Places
+fn with_place(mut places: Places, i: usize, z: i64) -> Places
     requires { i < most_places }
     ensures { Replaced (row_of places) i z (row_of result) }
 {
-    let Places {
-        first,
-        second,
-        third,
-        fourth,
-    } = places;
-    match i {
-        0 => Places {
-            first: z,
-            second,
-            third,
-            fourth,
-        },
-        1 => Places {
-            first,
-            second: z,
-            third,
-            fourth,
-        },
-        2 => Places {
-            first,
-            second,
-            third: z,
-            fourth,
-        },
-        _ => Places {
-            first,
-            second,
-            third,
-            fourth: z,
-        },
-    }
+    places.numbers[i] = z;
+    places
 }
 
 // So many places of a cost, each in a column, and the next place.
@@ -96,34 +67,29 @@ pub fn read_head(columns: &[u8], places: usize) -> Option<u64>
 {
     let (ports, at) = read_number(columns, 0, NUMBER_WIDTH)?;
     let (shown, at) = read_number::<u64>(columns, at, NUMBER_WIDTH)?;
-    if shown == places as u64 && ends_line(columns, at) {
-        Some(ports)
-    } else {
-        None
+    if shown != places as u64 {
+        return None;
     }
+    ends_line(columns, at).then_some(ports)
 }
 
 // The numbers of a leg line whose cost has so many places.
-pub fn read_leg(columns: &[u8], places: usize) -> Option<LegLine>
+pub fn read_leg(columns: &[u8], places: usize) -> Option<LegLine<Places>>
     requires { places ≤ most_places }
-    ensures { MatchOption result ((l : Numbered) → LegColumns places columns.now l → ⊥) (λ l. LegColumns places columns.now (line_leg l) × Narrow places (row_of l.cost)) }
+    ensures { MatchOption result ((l : Numbered) → LegColumns places columns.now l → ⊥) (λ l. LegColumns places columns.now (line_leg row_of l) × Narrow places (row_of l.cost)) }
 {
     let (number, at) = read_number(columns, 0, NUMBER_WIDTH)?;
     let (from, at) = read_number(columns, at, NUMBER_WIDTH)?;
     let (to, at) = read_number(columns, at, NUMBER_WIDTH)?;
     let (hours, at) = read_number(columns, at, HOURS_WIDTH)?;
     let (cost, at) = read_places(columns, at, COST_WIDTH, places)?;
-    if ends_line(columns, at) {
-        Some(LegLine {
-            number,
-            from,
-            to,
-            hours,
-            cost,
-        })
-    } else {
-        None
-    }
+    ends_line(columns, at).then_some(LegLine {
+        number,
+        from,
+        to,
+        hours,
+        cost,
+    })
 }
 
 // The numbers of an end line whose summed cost has so many places.
@@ -134,9 +100,5 @@ pub fn read_end(columns: &[u8], places: usize) -> Option<EndLine>
     let (legs, at) = read_number(columns, 0, NUMBER_WIDTH)?;
     let (hours, at) = read_number(columns, at, SUMMED_HOURS_WIDTH)?;
     let (cost, at) = read_places(columns, at, SUMMED_COST_WIDTH, places)?;
-    if ends_line(columns, at) {
-        Some(EndLine { legs, hours, cost })
-    } else {
-        None
-    }
+    ends_line(columns, at).then_some(EndLine { legs, hours, cost })
 }

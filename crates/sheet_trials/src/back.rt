@@ -13,15 +13,13 @@ pub fn comes_back<K: SheetKind>(
 ) -> Result<bool, AllocError> {
     let sheet = written(heap, ports, table)?;
     let mut read = filled(heap, table.len())?;
-    match read_sheet(sheet.as_slice(), ports, &mut read) {
-        Ok(found) => {
-            let again = written(heap, found, read.as_slice())?;
-            Ok(
-                found == ports
-                    && is_same_table(table, read.as_slice())
-                    && again.as_slice() == sheet.as_slice(),
-            )
-        }
-        Err(_) => Ok(false),
-    }
+    let Ok(found) = read_sheet(sheet.as_slice(), ports, &mut read) else {
+        return Ok(false);
+    };
+    let again = written(heap, found, read.as_slice())?;
+    Ok(
+        found == ports
+            && is_same_table(table, read.as_slice())
+            && again.as_slice() == sheet.as_slice(),
+    )
 }

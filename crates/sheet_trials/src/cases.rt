@@ -3,6 +3,7 @@ use crate::longest::longest_with;
 use crate::tables::{filled, is_filled, written};
 use charts::Leg;
 use costs::Money;
+use limits::refusal::Refusal;
 use sheet_reader::{Fault, read_sheet};
 use sheets::SheetKind;
 use std::alloc::{AllocError, Global};
@@ -28,13 +29,8 @@ pub enum Text {
     Longest(&'static [u8]),
 }
 
-#[derive(Clone, Copy, PartialEq, Eq)]
-pub enum Answer {
-    // the ports of the chart
-    Accepted(usize),
-    // the refusal's number and the line
-    Refused(u8, usize),
-}
+// The ports of the chart, or the refusal and the line at fault, which is 0 where no line is.
+pub type Answer = Result<usize, (Refusal, usize)>;
 
 #[derive(Clone, Copy)]
 pub struct Case {
@@ -46,11 +42,8 @@ pub struct Case {
 fn triangle_with(heap: Global, line: usize, text: &[u8]) -> Result<Vec<u8>, AllocError> {
     let mut sheet = Vec::new(heap);
     for (before, kept) in TRIANGLE.iter().enumerate() {
-        if before.wrapping_add(1) == line {
-            sheet.extend_from_slice(text)?;
-        } else {
-            sheet.extend_from_slice(kept)?;
-        }
+        let is_replaced = before.wrapping_add(1) == line;
+        sheet.extend_from_slice(if is_replaced { text } else { kept })?;
     }
     Ok(sheet)
 }
@@ -64,16 +57,15 @@ fn bytes_of(heap: Global, text: Text) -> Result<Vec<u8>, AllocError> {
 }
 
 fn answer_of(read: Result<usize, Fault>) -> Answer {
-    match read {
-        Ok(ports) => Answer::Accepted(ports),
-        Err(fault) => Answer::Refused(fault.refusal.number(), fault.line),
-    }
+    read.map_err(|fault| (fault.refusal, fault.line.unwrap_or(0)))
 }
 
 fn tell(rt: &HostRuntime, name: &str, answer: Answer) -> io::Result<()> {
     match answer {
-        Answer::Accepted(ports) => println!(rt; "  {name}: accepted, {ports} ports"),
-        Answer::Refused(number, line) => println!(rt; "  {name}: refused, {number} in line {line}"),
+        Ok(ports) => println!(rt; "  {name}: accepted, {ports} ports"),
+        Err((refusal, line)) => {
+            println!(rt; "  {name}: refused, {} in line {line}", refusal.number())
+        }
     }
 }
 
@@ -85,8 +77,8 @@ fn is_table_right<K: SheetKind>(
     table: &[Option<Leg<K>>],
 ) -> Result<bool, AllocError> {
     match answer {
-        Answer::Refused(_, _) => Ok(is_filled(table)),
-        Answer::Accepted(ports) => {
+        Err(_) => Ok(is_filled(table)),
+        Ok(ports) => {
             let again = written(heap, ports, table)?;
             Ok(again.as_slice() == text)
         }
@@ -119,6 +111,7 @@ pub fn try_cases<K: SheetKind>(
 ) -> io::Result<()> {
     println!(rt; "{name}:")?;
     let mut wrong: usize = 0;
+    // Counted in a loop, since each case is told as it is tried, and telling may fail.
     for case in cases {
         if !is_right::<K>(rt, *case, most_ports, places)? {
             wrong = wrong.saturating_add(1);

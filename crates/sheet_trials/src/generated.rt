@@ -54,10 +54,7 @@ impl Draws {
             to: self.port(ports),
             hours: self.hours(),
             cost: K::made_of(Places {
-                first,
-                second,
-                third: 0,
-                fourth: 0,
+                numbers: [first, second, 0, 0],
             }),
         }
     }
@@ -77,17 +74,14 @@ impl Draws {
         heap: Global,
         ports: u16,
     ) -> Result<Vec<Option<Leg<K>>>, AllocError> {
-        let mut table = Vec::new(heap);
-        for _ in 0..TABLE_LENGTH {
-            table.push(self.place(ports))?;
-        }
-        Ok(table)
+        (0..TABLE_LENGTH).map(|_| self.place(ports)).collect(heap)
     }
 }
 
 fn try_charts<K: SheetKind>(rt: &HostRuntime, name: &str) -> io::Result<()> {
     let mut draws = Draws { state: 2026 };
     let mut differ: u32 = 0;
+    // Counted in a loop, since memory may run out for any chart.
     for _ in 0..CHARTS {
         let [high, ..] = draws.next();
         let ports = u16::from(high).saturating_add(1);

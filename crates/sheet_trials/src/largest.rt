@@ -1,11 +1,11 @@
 // The longest sheet: as many legs as a chart can have, each at its limits.
 use crate::back::comes_back;
-use crate::cases::Answer::{Accepted, Refused};
 use crate::cases::Text::Longest;
 use crate::cases::{Case, try_cases};
 use crate::longest::{MOST_DOLLARS, longest};
 use crate::tables::listed;
 use costs::Money;
+use limits::refusal::Refusal::{Malformed, Number};
 use sheets::{Form, write_sheet};
 use std::io;
 
@@ -15,37 +15,37 @@ static ENDS: [Case; 7] = [
     Case {
         name: "the right sums",
         text: Longest(b"E 4096  40955904               0\n"),
-        answer: Accepted(256),
+        answer: Ok(256),
     },
     Case {
         name: "an hour too many",
         text: Longest(b"E 4096  40955905               0\n"),
-        answer: Refused(10, 4098),
+        answer: Err((Malformed, 4098)),
     },
     Case {
         name: "a dollar too few",
         text: Longest(b"E 4096  40955904              -1\n"),
-        answer: Refused(10, 4098),
+        answer: Err((Malformed, 4098)),
     },
     Case {
         name: "the last line missing",
         text: Longest(b""),
-        answer: Refused(10, 4098),
+        answer: Err((Malformed, 4098)),
     },
     Case {
         name: "a byte left over",
         text: Longest(b"E 4096  40955904               0\n\n"),
-        answer: Refused(10, 4099),
+        answer: Err((Malformed, 4099)),
     },
     Case {
         name: "a leg line more, numbered 4096",
         text: Longest(b"L 4096    0    0     1          1\nE 4097  40955905               1\n"),
-        answer: Refused(5, 4098),
+        answer: Err((Number, 4098)),
     },
     Case {
         name: "a leg line more, numbered 4095",
         text: Longest(b"L 4095    0    0     1          1\nE 4097  40955905               1\n"),
-        answer: Refused(5, 4098),
+        answer: Err((Number, 4098)),
     },
 ];
 
@@ -57,18 +57,11 @@ fn back_and_forth(rt: &HostRuntime, even: i64, odd: i64) -> io::Result<()> {
 
 // Whether some zeros stand at the front, and every other byte is still as it was filled.
 fn is_struck(buffer: &[u8]) -> bool {
-    let mut zeros = true;
-    if buffer.first().copied() != Some(0) {
-        return false;
-    }
-    for byte in buffer {
-        if *byte == BLANK {
-            zeros = false;
-        } else if !zeros || *byte != 0 {
-            return false;
-        }
-    }
-    true
+    buffer.first() == Some(&0)
+        && buffer
+            .iter()
+            .skip_while(|byte| **byte == 0)
+            .all(|byte| *byte == BLANK)
 }
 
 // The longest sheet into a buffer of so many bytes.

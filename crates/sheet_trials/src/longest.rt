@@ -10,17 +10,17 @@ const END_LENGTH: usize = 33;
 
 // 4,096 legs between 256 ports, whose costs take turns.
 pub fn longest(heap: Global, even: i64, odd: i64) -> Result<Vec<Option<Leg<Money>>>, AllocError> {
-    let mut table = Vec::new(heap);
-    for n in 0u16..4096 {
-        let dollars = if n % 2 == 0 { even } else { odd };
-        table.push(Some(Leg {
-            from: n % 256,
-            to: n / 16,
-            hours: 9_999,
-            cost: Money { dollars },
-        }))?;
-    }
-    Ok(table)
+    (0u16..4096)
+        .map(|n| {
+            let dollars = if n % 2 == 0 { even } else { odd };
+            Some(Leg {
+                from: n % 256,
+                to: n / 16,
+                hours: 9_999,
+                cost: Money { dollars },
+            })
+        })
+        .collect(heap)
 }
 
 // Its sheet with something else in place of the last line.

@@ -1,44 +1,44 @@
 // Several faults at once: the order of the refusals, and the first line before a later one.
-use crate::cases::Answer::Refused;
 use crate::cases::Text::Line;
 use crate::cases::{Case, try_damage};
+use limits::refusal::Refusal::{Cost, Hours, Malformed, Number, Port};
 use std::io;
 
 static ONE_LINE: [Case; 7] = [
     Case {
         name: "the number, a port, the hours and the cost",
         text: Line(3, b"L    0    3    0 10000 1000000000\n"),
-        answer: Refused(5, 3),
+        answer: Err((Number, 3)),
     },
     Case {
         name: "a port, the hours and the cost",
         text: Line(3, b"L    1    1    3 10000 1000000000\n"),
-        answer: Refused(1, 3),
+        answer: Err((Port, 3)),
     },
     Case {
         name: "the hours and the cost",
         text: Line(3, b"L    1    1    0 10000 1000000000\n"),
-        answer: Refused(3, 3),
+        answer: Err((Hours, 3)),
     },
     Case {
         name: "the cost alone",
         text: Line(3, b"L    1    1    0    20 1000000000\n"),
-        answer: Refused(2, 3),
+        answer: Err((Cost, 3)),
     },
     Case {
         name: "the number, and a malformed cost",
         text: Line(3, b"L    0    1    0    20       0300\n"),
-        answer: Refused(10, 3),
+        answer: Err((Malformed, 3)),
     },
     Case {
         name: "a port, and no line feed",
         text: Line(3, b"L    1    3    0    20        300 "),
-        answer: Refused(10, 3),
+        answer: Err((Malformed, 3)),
     },
     Case {
         name: "every column, and the letter",
         text: Line(3, b"R   00   -1   +3 10000 1000000000\n"),
-        answer: Refused(10, 3),
+        answer: Err((Malformed, 3)),
     },
 ];
 
@@ -46,12 +46,12 @@ static TWO_LINES: [Case; 6] = [
     Case {
         name: "no ports, then a malformed line",
         text: Line(1, b"C    0    1\n\n"),
-        answer: Refused(1, 1),
+        answer: Err((Port, 1)),
     },
     Case {
         name: "too many hours, then a malformed line",
         text: Line(3, b"L    1    1    0 10000        300\n\n"),
-        answer: Refused(3, 3),
+        answer: Err((Hours, 3)),
     },
     Case {
         name: "a number that repeats, then a wrong port",
@@ -59,7 +59,7 @@ static TWO_LINES: [Case; 6] = [
             3,
             b"L    0    1    0    20        300\nL    1    3    0    20        300\n",
         ),
-        answer: Refused(5, 3),
+        answer: Err((Number, 3)),
     },
     Case {
         name: "too dear, then a number that repeats",
@@ -67,7 +67,7 @@ static TWO_LINES: [Case; 6] = [
             3,
             b"L    1    1    0    20 1000000000\nL    1    1    0    20        300\n",
         ),
-        answer: Refused(2, 3),
+        answer: Err((Cost, 3)),
     },
     Case {
         name: "a wrong port, then sums off by one",
@@ -75,12 +75,12 @@ static TWO_LINES: [Case; 6] = [
             5,
             b"L    3    2    3    50       -600\nE    4       140           -2101\n",
         ),
-        answer: Refused(1, 5),
+        answer: Err((Port, 5)),
     },
     Case {
         name: "sums off by one, then text left over",
         text: Line(6, b"E    4       140           -2101\n\n"),
-        answer: Refused(10, 6),
+        answer: Err((Malformed, 6)),
     },
 ];
 

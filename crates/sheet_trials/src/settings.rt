@@ -1,20 +1,20 @@
 // What a caller sets: the most ports of a chart, and how many places the table has.
-use crate::cases::Answer::{Accepted, Refused};
 use crate::cases::Text::{Line, Whole};
 use crate::cases::{Case, try_cases};
 use costs::Money;
+use limits::refusal::Refusal::{Length, Number, Port};
 use std::io;
 
 static REFUSED_PORTS: [Case; 2] = [
     Case {
         name: "the triangle",
         text: Line(1, b"C    3    1\n"),
-        answer: Refused(1, 1),
+        answer: Err((Port, 1)),
     },
     Case {
         name: "256 ports without legs",
         text: Whole(b"C  256    1\nE    0         0               0\n"),
-        answer: Refused(1, 1),
+        answer: Err((Port, 1)),
     },
 ];
 
@@ -22,12 +22,12 @@ static THREE_PORTS: [Case; 2] = [
     Case {
         name: "the triangle",
         text: Line(1, b"C    3    1\n"),
-        answer: Accepted(3),
+        answer: Ok(3),
     },
     Case {
         name: "256 ports without legs",
         text: Whole(b"C  256    1\nE    0         0               0\n"),
-        answer: Refused(1, 1),
+        answer: Err((Port, 1)),
     },
 ];
 
@@ -35,12 +35,12 @@ static ALL_PORTS: [Case; 2] = [
     Case {
         name: "256 ports without legs",
         text: Whole(b"C  256    1\nE    0         0               0\n"),
-        answer: Accepted(256),
+        answer: Ok(256),
     },
     Case {
         name: "257 ports without legs",
         text: Whole(b"C  257    1\nE    0         0               0\n"),
-        answer: Refused(1, 1),
+        answer: Err((Port, 1)),
     },
 ];
 
@@ -48,37 +48,37 @@ static NO_PLACES: [Case; 2] = [
     Case {
         name: "the triangle",
         text: Line(1, b"C    3    1\n"),
-        answer: Refused(5, 2),
+        answer: Err((Number, 2)),
     },
     Case {
         name: "256 ports without legs",
         text: Whole(b"C  256    1\nE    0         0               0\n"),
-        answer: Accepted(256),
+        answer: Ok(256),
     },
 ];
 
 static THREE_PLACES: [Case; 1] = [Case {
     name: "the triangle",
     text: Line(1, b"C    3    1\n"),
-    answer: Refused(5, 5),
+    answer: Err((Number, 5)),
 }];
 
 static ENOUGH_PLACES: [Case; 1] = [Case {
     name: "the triangle",
     text: Line(1, b"C    3    1\n"),
-    answer: Accepted(3),
+    answer: Ok(3),
 }];
 
 static TOO_MANY_PLACES: [Case; 2] = [
     Case {
         name: "the triangle",
         text: Line(1, b"C    3    1\n"),
-        answer: Refused(6, 0),
+        answer: Err((Length, 0)),
     },
     Case {
         name: "no text at all",
         text: Whole(b""),
-        answer: Refused(6, 0),
+        answer: Err((Length, 0)),
     },
 ];
 

@@ -1,7 +1,6 @@
 // Tables of legs, filled, compared and written as sheets.
 use charts::Leg;
 use sheets::form::HEAD_LENGTH;
-use sheets::kind::places_of;
 use sheets::{Form, NumberedLeg, SheetKind, write_sheet};
 use std::alloc::{AllocError, Global};
 
@@ -20,15 +19,11 @@ pub fn filled<K: SheetKind>(
     heap: Global,
     length: usize,
 ) -> Result<Vec<Option<Leg<K>>>, AllocError> {
-    let mut table = Vec::new(heap);
-    for _ in 0..length {
-        table.push(Some(known_leg()))?;
-    }
-    Ok(table)
+    Ok(vec![in heap; Some(known_leg()); length]?)
 }
 
 fn is_same_leg<K: SheetKind>(a: Leg<K>, b: Leg<K>) -> bool {
-    a.from == b.from && a.to == b.to && a.hours == b.hours && places_of(a.cost) == places_of(b.cost)
+    a.from == b.from && a.to == b.to && a.hours == b.hours && a.cost.places() == b.cost.places()
 }
 
 fn is_same_place<K: SheetKind>(a: Option<Leg<K>>, b: Option<Leg<K>>) -> bool {
@@ -41,24 +36,16 @@ fn is_same_place<K: SheetKind>(a: Option<Leg<K>>, b: Option<Leg<K>>) -> bool {
 
 // Whether every place is still as it was filled.
 pub fn is_filled<K: SheetKind>(table: &[Option<Leg<K>>]) -> bool {
-    for place in table {
-        if !is_same_place(*place, Some(known_leg())) {
-            return false;
-        }
-    }
-    true
+    table
+        .iter()
+        .all(|place| is_same_place(*place, Some(known_leg())))
 }
 
 pub fn is_same_table<K: SheetKind>(a: &[Option<Leg<K>>], b: &[Option<Leg<K>>]) -> bool {
-    if a.len() != b.len() {
-        return false;
-    }
-    for (left, right) in a.iter().zip(b) {
-        if !is_same_place(*left, *right) {
-            return false;
-        }
-    }
-    true
+    a.len() == b.len()
+        && a.iter()
+            .zip(b)
+            .all(|(left, right)| is_same_place(*left, *right))
 }
 
 // The legs of a table, without its blanks.
@@ -66,13 +53,11 @@ pub fn listed<K: SheetKind>(
     heap: Global,
     table: &[Option<Leg<K>>],
 ) -> Result<Vec<NumberedLeg<K>>, AllocError> {
-    let mut legs = Vec::new(heap);
-    for (number, place) in table.iter().enumerate() {
-        if let Some(leg) = place {
-            legs.push(NumberedLeg { number, leg: *leg })?;
-        }
-    }
-    Ok(legs)
+    table
+        .iter()
+        .enumerate()
+        .filter_map(|(number, place)| place.map(|leg| NumberedLeg { number, leg }))
+        .collect(heap)
 }
 
 // The length of the chart sheet of so many legs.
@@ -94,9 +79,7 @@ pub fn written<K: SheetKind>(
 ) -> Result<Vec<u8>, AllocError> {
     let legs = listed(heap, table)?;
     let mut out = vec![in heap; 0u8; sheet_length::<K>(legs.len())]?;
-    match write_sheet(Form::Chart, ports, legs.as_slice(), &mut out) {
-        Ok(length) => out.truncate(length),
-        Err(_) => out.clear(),
-    }
+    let length = write_sheet(Form::Chart, ports, legs.as_slice(), &mut out).unwrap_or(0);
+    out.truncate(length);
     Ok(out)
 }

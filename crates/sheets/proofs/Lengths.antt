@@ -1,19 +1,14 @@
 -- How long each line is where its numbers fit. Assumes nothing.
-use Rattle.std.proofs.Common.{◌≡◌, ℕ, ◌*◌, ◌^◌, ◌<◌, ◌≤◌, length, pos, arith}
+use Rattle.std.proofs.Common.{◌≡◌, ℕ, ◌*◌, ◌<◌, ◌≤◌, length, arith}
 use Rattle.std.proofs.lemmas.List.{length-append}
 use Rattle.limits.specs.Numbers.{most_ports, most_legs, most_hours, most_cost, most_places}
 use Rattle.rows.specs.Rows.{Row}
 use Rattle.rows.specs.Kinds.{Kind}
-use Rattle.columns.specs.Columns.{column}
-use Rattle.columns.proofs.Columns.{length_column, fits_unsigned}
 use Rattle.sheets.specs.declared.form.Form.{Form}
 use Rattle.sheets.specs.Places.{largest}
 use Rattle.sheets.specs.Form.{number_width, hours_width, cost_width, summed_hours_width, summed_cost_width, Numbered, head_line, leg_line, end_line, head_length, leg_length, end_length}
 use Rattle.sheets.specs.Proper.{ProperLeg}
-use Rattle.sheets.proofs.Writing.{length_places}
-
-length_unsigned : (w n : ℕ) → 0 < w → n < 10 ^ w → length (column w (pos n)) ≡ w
-length_unsigned w n some below = length_column w (pos n) (fits_unsigned w n some below)
+use Rattle.sheets.proofs.Writing.{length_unsigned, length_places}
 
 pub length_head : (n : ℕ) (form : Form) (ports : ℕ) → ports ≤ most_ports → n ≤ most_places → length (head_line n form ports) ≡ head_length
 unfolding head_line

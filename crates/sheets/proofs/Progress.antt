@@ -11,7 +11,6 @@ use Rattle.columns.proofs.Puts.{put_after, length_put}
 use Rattle.sheets.specs.declared.form.Form.{Form}
 use Rattle.sheets.specs.declared.sheet.BegunSheet.{BegunSheet}
 use Rattle.sheets.specs.declared.sheet.ClosedSheet.{ClosedSheet}
-use Rattle.sheets.specs.declared.sheet.Closing.TheVariants.{Closed, Short}
 use Rattle.sheets.specs.Form.{Numbered, Sheet, head_line, leg_line, leg_lines, end_line, sheet_bytes}
 use Rattle.sheets.specs.Begun.{Begun, begun, opened, with_leg, begin_refusal, line_refusal, closed_length}
 use Rattle.sheets.specs.Writing.{Holds, with_line, Begins, Takes, Ends, struck}
@@ -116,7 +115,7 @@ module _ (k : Kind) where
       (p.refusal ∙ ap (λ o. or_refusal o (lines_refusal k (with_leg n b l) rest (length out))) (subst (λ (m : ℕ). line_refusal k b l m ≡ Some e) p.same_length why))
       (is ∙ ap (λ (x : Begun). struck x.end out'') same_b ∙ ap (struck b.end) same_out ∙ struck_put out (front done) b.end (length_front p) (omega (arith, p.room)))
 
-  pub all_put : {K : Type 0} {s : Sheet} {out out' out'' : List ℕ} {b : BegunSheet K} {c : ClosedSheet} → Ends k b out' (Closed c) out'' → Progress s s [] out (begun b) out'
+  pub all_put : {K : Type 0} {s : Sheet} {out out' out'' : List ℕ} {b : BegunSheet K} {c : ClosedSheet} → Ends k b out' (Ok c) out'' → Progress s s [] out (begun b) out'
       → length out'' ≡ length out' → PutsSheet k s out (Ok c.length) out''
   unfolding sheet_bytes
   all_put {s = s} {out = out} {out' = out'} {out'' = out''} {b = b} {c = c} e p kept =
@@ -137,7 +136,7 @@ module _ (k : Kind) where
         proper = λ _. p.held.proper;
       }
 
-  pub none_short : {A : Type 0} {K : Type 0} {s done : Sheet} {rest : List Numbered} {out out' out'' : List ℕ} {b b' : BegunSheet K} → Ends k b out' (Short b') out''
+  pub none_short : {A : Type 0} {K : Type 0} {s done : Sheet} {rest : List Numbered} {out out' out'' : List ℕ} {b b' : BegunSheet K} → Ends k b out' (Err b') out''
       → Progress s done rest out (begun b) out' → A
   none_short {out' = out'} {b = b} e p =
       let fits = le-leb (closed_length k.places (begun b)) (length out') (omega (arith, p.room, p.same_length)) in

@@ -10,8 +10,7 @@ use Rattle.charts.specs.Limits.{port_count_refusal, leg_refusal}
 use Rattle.sheets.specs.declared.form.Form.{Form}
 use Rattle.sheets.specs.declared.tally.Tally.{Tally}
 use Rattle.sheets.specs.declared.sheet.BegunSheet.{BegunSheet}
-use Rattle.sheets.specs.declared.sheet.Closing.{Closing}
-use Rattle.sheets.specs.declared.sheet.Closing.TheVariants.{Closed, Short}
+use Rattle.sheets.specs.declared.sheet.ClosedSheet.{ClosedSheet}
 use Rattle.sheets.specs.Places.{row_of}
 use Rattle.sheets.specs.Form.{Numbered, head_length, leg_length, end_length}
 use Rattle.sheets.specs.Proper.{least_after}
@@ -87,6 +86,6 @@ abbrev pub close_refusal : ℕ → Begun → ℕ → Option Refusal
 close_refusal n b len = room_refusal (closed_length n b) len
 
 -- what closing makes of a sheet of n places: the closed sheet tells its length, and else the sheet is begun as before
-abbrev pub Closes : {K : Type 0} → ℕ → BegunSheet K → ℕ → Closing K → Type 0
-Closes n b len (Closed s) = (close_refusal n (begun b) len ≡ None) × (s.length ≡ closed_length n (begun b))
-Closes n b len (Short s) = (close_refusal n (begun b) len ≡ Some Length) × (s ≡ b)
+abbrev pub Closes : {K : Type 0} → ℕ → BegunSheet K → ℕ → Result ClosedSheet (BegunSheet K) → Type 0
+Closes n b len (Ok s) = (close_refusal n (begun b) len ≡ None) × (s.length ≡ closed_length n (begun b))
+Closes n b len (Err s) = (close_refusal n (begun b) len ≡ Some Length) × (s ≡ b)

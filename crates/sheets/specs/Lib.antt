@@ -3,4 +3,5 @@ pub mod Form
 pub mod Proper
 pub mod Begun
 pub mod Writing
+pub mod Lines
 pub mod Listing

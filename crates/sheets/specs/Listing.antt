@@ -6,14 +6,14 @@ use Rattle.rows.specs.Rows.{Row}
 use Rattle.rows.specs.Kinds.{Kind}
 use Rattle.columns.specs.Put.{put}
 use Rattle.sheets.specs.declared.form.Form.{Form}
-use Rattle.sheets.specs.declared.listing.NumberedLeg.{NumberedLeg}
+use Rattle.sheets.specs.declared.numbered.NumberedLeg.{NumberedLeg}
 use Rattle.sheets.specs.Form.{Numbered, Sheet, sheet_bytes}
 use Rattle.sheets.specs.Proper.{Proper}
 use Rattle.sheets.specs.Begun.{Begun, opened, with_leg, begin_refusal, line_refusal}
-use Rattle.sheets.specs.Writing.{numbered, struck}
+use Rattle.sheets.specs.Writing.{numbered_of, struck}
 
 abbrev pub listed : {K : Type 0} → (K → Row) → Form → ℕ → List (NumberedLeg K) → Sheet
-listed row form ports legs = record { form = form; ports = ports; legs = map (λ l. numbered row l.number l.leg) legs }
+listed row form ports legs = record { form = form; ports = ports; legs = map (numbered_of row) legs }
 
 -- the first refusal among leg lines that are put one after the other
 abbrev pub lines_refusal : Kind → Begun → List Numbered → ℕ → Option Refusal

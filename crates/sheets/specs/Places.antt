@@ -1,10 +1,15 @@
 -- The row of places that the code holds as plain numbers, and the largest place of a row. Assumes nothing.
-use Rattle.std.specs.Prelude.{◌≡◌, ℕ, ◌<◌, max, unsigned_abs}
+use Rattle.std.specs.Prelude.{◌≡◌, ℕ, ◌<◌, max, pos, slice_index_or, unsigned_abs}
 use Rattle.rows.specs.Rows.{Row, place}
 use Rattle.sheets.specs.declared.places.Places.{Places}
 
 abbrev pub row_of : Places → Row
-row_of p = record { first = p.first; second = p.second; third = p.third; fourth = p.fourth }
+row_of p = record {
+  first = slice_index_or p.numbers 0 (pos 0);
+  second = slice_index_or p.numbers 1 (pos 0);
+  third = slice_index_or p.numbers 2 (pos 0);
+  fourth = slice_index_or p.numbers 3 (pos 0);
+}
 
 -- two rows agree in their first n places
 abbrev pub SamePlaces : ℕ → Row → Row → Type 0

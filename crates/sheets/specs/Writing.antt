@@ -9,13 +9,17 @@ use Rattle.charts.specs.declared.leg.Leg.{Leg}
 use Rattle.columns.specs.Put.{put}
 use Rattle.sheets.specs.declared.form.Form.{Form}
 use Rattle.sheets.specs.declared.sheet.BegunSheet.{BegunSheet}
-use Rattle.sheets.specs.declared.sheet.Closing.{Closing}
+use Rattle.sheets.specs.declared.sheet.ClosedSheet.{ClosedSheet}
+use Rattle.sheets.specs.declared.numbered.NumberedLeg.{NumberedLeg}
 use Rattle.sheets.specs.Form.{Numbered, Sheet, head_line, leg_line, leg_lines, end_line, sheet_bytes, summed_hours, summed_cost, head_length, leg_length}
 use Rattle.sheets.specs.Proper.{least_after, Proper}
 use Rattle.sheets.specs.Begun.{Begun, begun, opened, with_leg, begin_refusal, line_refusal, close_refusal, closed_length, Closes}
 
 abbrev pub numbered : {K : Type 0} → (K → Row) → ℕ → Leg K → Numbered
 numbered row number leg = record { number = number; leg = figures_of row leg }
+
+abbrev pub numbered_of : {K : Type 0} → (K → Row) → NumberedLeg K → Numbered
+numbered_of row l = numbered row l.number l.leg
 
 -- a sheet with one leg more
 abbrev pub with_line : Sheet → Numbered → Sheet
@@ -60,7 +64,7 @@ pub record Takes (k : Kind) (b : Begun) (l : Numbered) (out : List ℕ) (r : Res
   pub holds : (s : Sheet) → Holds k s b out → line_refusal k b l (length out) ≡ None → Holds k (with_line s l) b' out'
 
 -- the end line is put after the lines so far
-pub record Ends {K : Type 0} (k : Kind) (b : BegunSheet K) (out : List ℕ) (r : Closing K) (out' : List ℕ) : Type 0 where
+pub record Ends {K : Type 0} (k : Kind) (b : BegunSheet K) (out : List ℕ) (r : Result ClosedSheet (BegunSheet K)) (out' : List ℕ) : Type 0 where
   pub answered : Closes k.places b (length out) r
   -- the line in its place, all else as it was
   pub bytes : out' ≡ if_refused (close_refusal k.places (begun b) (length out)) out (put out (begun b).end (end_line k.places (begun b).legs (begun b).hours (begun b).cost))

@@ -5,15 +5,17 @@ pub mod form;
 pub mod kind;
 mod lines;
 pub mod listing;
+pub mod numbered;
 pub mod places;
 pub mod sheet;
 pub mod tally;
 
 pub use form::Form;
 pub use kind::SheetKind;
-pub use listing::{NumberedLeg, write_sheet};
+pub use listing::write_sheet;
+pub use numbered::NumberedLeg;
 pub use places::Places;
-pub use sheet::{BegunSheet, ClosedSheet, Closing};
+pub use sheet::{BegunSheet, ClosedSheet};
 pub use tally::Tally;
 
 #[cfg(test)]

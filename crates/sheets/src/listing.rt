@@ -3,16 +3,9 @@ ghost use Rattle.sheets.specs.Listing.{listed, PutsSheet};
 
 use crate::form::Form;
 use crate::kind::SheetKind;
-use crate::sheet::{BegunSheet, Closing};
-use charts::Leg;
+use crate::numbered::NumberedLeg;
+use crate::sheet::BegunSheet;
 use limits::refusal::Refusal;
-
-// A leg and its number.
-#[derive(Clone, Copy)]
-pub struct NumberedLeg<K> {
-    pub number: usize,
-    pub leg: Leg<K>,
-}
 
 // Puts the sheet of these legs at the front of the buffer and answers its length; where a line is refused, the sheet is struck.
 pub fn write_sheet<K: SheetKind>(
@@ -24,15 +17,15 @@ pub fn write_sheet<K: SheetKind>(
     ensures { PutsSheet K.CostKind.kind (listed K.CostKind.row form ports legs.now) out.old result out.new }
 {
     let mut sheet = BegunSheet::begin(form, ports, out)?;
-    for numbered in legs {
-        if let Err(refusal) = sheet.leg(out, numbered.number, numbered.leg) {
+    for leg in legs {
+        if let Err(refusal) = sheet.leg(out, *leg) {
             sheet.strike(out);
             return Err(refusal);
         }
     }
     match sheet.close(out) {
-        Closing::Closed(closed) => Ok(closed.length()),
-        Closing::Short(begun) => {
+        Ok(closed) => Ok(closed.length()),
+        Err(begun) => {
             begun.strike(out);
             Err(Refusal::Length)
         }

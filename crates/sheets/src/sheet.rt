@@ -15,10 +15,3 @@ pub struct BegunSheet<K> {
 pub struct ClosedSheet {
     length: usize,
 }
-
-// What closing makes of a sheet.
-pub enum Closing<K> {
-    Closed(ClosedSheet),
-    // the end line does not fit the buffer, and the sheet is begun as before
-    Short(BegunSheet<K>),
-}

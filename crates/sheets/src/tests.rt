@@ -1,7 +1,8 @@
 // Sheets at the limits: exact buffers and one byte less, the widest numbers of every column, and each refusal.
 use crate::form::Form;
-use crate::listing::{NumberedLeg, write_sheet};
-use crate::sheet::{BegunSheet, Closing};
+use crate::listing::write_sheet;
+use crate::numbered::NumberedLeg;
+use crate::sheet::BegunSheet;
 use charts::Leg;
 use costs::{Money, MoneyTonnes};
 use limits::refusal::Refusal;
@@ -118,8 +119,8 @@ fn stays_begun_until_the_end_line_fits(rt: HostRuntime) -> Result<(), Fail> {
     let mut out = [7; 45];
     let begun: BegunSheet<Money> = BegunSheet::begin(Form::Chart, 1, &mut out)?;
     match begun.close(&mut out[0..44]) {
-        Closing::Closed(_) => Err(Fail::new("closed")),
-        Closing::Short(begun) => {
+        Ok(_) => Err(Fail::new("closed")),
+        Err(begun) => {
             begun.strike(&mut out[0..11]);
             assert!(rt; out[10] == 0 && out[11] == b'\n' && out[12] == 7);
             Ok(())

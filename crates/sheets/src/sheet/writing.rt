@@ -1,21 +1,15 @@
 // The calls on a sheet.
-ghost use Rattle.std.specs.Prelude.{◌≡◌, ◌+◌, ◌<◌, ◌≤◌, length};
-ghost use Rattle.limits.specs.Numbers.{most_legs, most_hours, most_cost, most_places};
-ghost use Rattle.columns.specs.Put.{put};
-ghost use Rattle.sheets.specs.Places.{row_of, largest};
-ghost use Rattle.sheets.specs.Form.{leg_line, leg_length};
-ghost use Rattle.sheets.specs.Begun.{begun, begun_answer, with_leg};
-ghost use Rattle.sheets.specs.Writing.{numbered, Begins, Takes, Ends, struck};
+ghost use Rattle.std.specs.Prelude.{◌≡◌};
+ghost use Rattle.sheets.specs.Begun.{begun, begun_answer};
+ghost use Rattle.sheets.specs.Writing.{numbered_of, Begins, Takes, Ends, struck};
 
-use super::{BegunSheet, ClosedSheet, Closing};
+use super::{BegunSheet, ClosedSheet};
 use crate::form::Form;
-use crate::kind::{SheetKind, plain_leg};
+use crate::kind::SheetKind;
 use crate::lines::{put_end, put_head, put_leg};
-use crate::places::Places;
+use crate::numbered::NumberedLeg;
 use crate::tally::Tally;
-use crate::tally::refusing::refuse_begin;
-use charts::Leg;
-use costs::CostKind;
+use crate::tally::refusing::check_begin;
 use limits::refusal::Refusal;
 use std::marker::PhantomData;
 
@@ -24,11 +18,8 @@ impl<K: SheetKind> BegunSheet<K> {
     pub fn begin(form: Form, ports: usize, out: &mut [u8]) -> Result<BegunSheet<K>, Refusal>
         ensures { Begins K.CostKind.kind form ports out.old (begun_answer result) out.new }
     {
-        let places = K::place_count();
-        if let Some(refusal) = refuse_begin(places, ports, out.len()) {
-            return Err(refusal);
-        }
-        put_head(out, form, ports, places);
+        check_begin::<K>(ports, out.len())?;
+        put_head::<K>(out, form, ports);
         Ok(BegunSheet {
             tally: Tally::open(form, ports),
             kind: PhantomData,
@@ -36,28 +27,25 @@ impl<K: SheetKind> BegunSheet<K> {
     }
 
     // Puts a leg line after the lines so far, if the end line fits after it.
-    pub fn leg(&mut self, out: &mut [u8], number: usize, leg: Leg<K>) -> Result<(), Refusal>
-        ensures { Takes K.CostKind.kind (begun self.old) (numbered K.CostKind.row number leg)
-            out.old result (begun self.new) out.new }
+    pub fn leg(&mut self, out: &mut [u8], line: NumberedLeg<K>) -> Result<(), Refusal>
+        ensures { Takes K.CostKind.kind (begun self.old) (numbered_of K.CostKind.row line) out.old result (begun self.new) out.new }
     {
-        if let Some(refusal) = self.tally.refuse_line(number, leg, out.len()) {
-            return Err(refusal);
-        }
-        self.write_leg(out, number, plain_leg(leg), K::place_count());
+        self.tally.check_line(line, out.len())?;
+        put_leg(out, self.tally.end, line);
+        self.tally.count(line.number, line.leg.hours, line.leg.cost);
         Ok(())
     }
 
-    // Puts the end line, which completes the sheet; where it does not fit, the sheet is handed back.
-    pub fn close(self, out: &mut [u8]) -> Closing<K>
+    // Puts the end line, which completes the sheet; where it does not fit, the sheet is handed back as it was.
+    pub fn close(self, out: &mut [u8]) -> Result<ClosedSheet, BegunSheet<K>>
         ensures { Ends K.CostKind.kind self out.old result out.new }
     {
-        let places = K::place_count();
-        if let Some(_) = self.tally.refuse_close(places, out.len()) {
-            return Closing::Short(self);
+        if self.tally.check_close::<K>(out.len()).is_err() {
+            return Err(self);
         }
         let BegunSheet { tally, kind: _ } = self;
-        let length = put_end(out, tally.end, tally.legs, tally.hours, tally.cost, places);
-        Closing::Closed(ClosedSheet { length })
+        let length = put_end::<K>(out, &tally);
+        Ok(ClosedSheet { length })
     }
 
     // Zeroes the bytes written so far, as many of them as the buffer has, and spends the sheet.
@@ -67,18 +55,6 @@ impl<K: SheetKind> BegunSheet<K> {
         let BegunSheet { tally, kind: _ } = self;
         let written = tally.end.min(out.len());
         out[0..written].fill(0);
-    }
-
-    // Puts a leg line of so many places and counts it.
-    fn write_leg(&mut self, out: &mut [u8], number: usize, leg: Leg<Places>, places: usize)
-        requires room { self.old.tally.end + leg_length places ≤ length out.old }
-        requires few { (places ≤ most_places) × (self.old.tally.legs < most_legs) }
-        requires fits { (number < most_legs) × ((leg.hours ≤ most_hours) × (largest (row_of leg.cost) ≤ most_cost)) }
-        ensures sheet { begun self.new ≡ with_leg places (begun self.old) (numbered row_of number leg) }
-        ensures bytes { out.new ≡ put out.old self.old.tally.end (leg_line places (numbered row_of number leg)) }
-    {
-        put_leg(out, self.tally.end, number, leg, places);
-        self.tally.count(number, leg.hours, leg.cost, places);
     }
 }
 

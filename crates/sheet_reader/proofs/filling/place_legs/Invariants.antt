@@ -9,4 +9,4 @@ abbrev pub invariant-loop-line : goal.invariant-loop-line
 invariant-loop-line g l =
     (length l.table ≡ length l.initial.table) ×
     ((ls : List Numbered) (more : List ℕ) → LegsNext g.K.CostKind.kind (length l.initial.table) l.legs l.initial.rest ls more
-    → LegsLeft g.K.CostKind.kind (length l.initial.table) (l.legs - l.line) l.rest more (table_figures g.K.CostKind.row l.table) (placed ls (table_figures g.K.CostKind.row l.initial.table)))
+    → LegsLeft g.K.CostKind.kind (length l.initial.table) (l.legs - l._line) l.rest more (table_figures g.K.CostKind.row l.table) (placed ls (table_figures g.K.CostKind.row l.initial.table)))

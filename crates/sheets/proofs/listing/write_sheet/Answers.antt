@@ -13,53 +13,50 @@ returns-in_err-sheet g c =
     let p = err_from_is_err_and c.from_residual.result c.from_residual.ensures.1 in
     rw (p.1, p.2) (not_begun g.K.CostKind.kind legs c.in_err-sheet.ensures)
 
-pub loop-numbered-init : goal.loop-numbered-init
-loop-numbered-init g c = λ form out p. p
-
-pub loop-numbered-preserved : goal.loop-numbered-preserved
-loop-numbered-preserved g c = λ form out p.
+pub loop-leg-preserved : goal.loop-leg-preserved
+loop-leg-preserved g c = λ form out p.
     let k = g.K.CostKind.kind in
     let row = g.K.CostKind.row in
     let legs = c.args.legs.now in
-    let i = c.loop-numbered.numbered-index in
-    let l = c.numbered-item.result in
+    let i = c.loop-leg.leg-index in
+    let l = c.leg-item.result in
     let sheet = listed row form c.args.ports in
     let below : i < length legs = omega arith in
-    let left = subst (λ (rest : List Numbered). Progress k (sheet legs) (sheet (take i legs)) rest out (begun c.loop-numbered.sheet) c.loop-numbered.out)
-    (listed_rest row form c.args.ports legs i l below c.numbered-item.is) (c.loop-numbered.invariant form out p) in
+    let left = subst (λ (rest : List Numbered). Progress k (sheet legs) (sheet (take i legs)) rest out (begun c.loop-leg.sheet) c.loop-leg.out)
+    (listed_rest row form c.args.ports legs i l below c.leg-item.is) (c.loop-leg.invariant form out p) in
     subst (λ (done : Sheet). Progress k (sheet legs) done (sheet (drop (i + 1) legs)).legs out (begun c.leg.new.self) c.leg.new.out)
-    (listed_more row form c.args.ports legs i l below c.numbered-item.is) (progress_taken k c.in_default.ensures left (omega arith))
+    (listed_more row form c.args.ports legs i l below c.leg-item.is) (progress_taken k c.in_default.ensures left (omega arith))
 
 pub returns-in-Err : goal.returns-in-Err
 returns-in-Err g c =
     let k = g.K.CostKind.kind in
     let row = g.K.CostKind.row in
     let legs = c.args.legs.now in
-    let i = c.loop-numbered.numbered-index in
+    let i = c.loop-leg.leg-index in
     let out = c.args.out.now in
     let sheet = listed row c.args.form c.args.ports in
     let first = progress_begun k (sheet legs).legs c.in_ok-sheet.ensures (omega arith) in
-    let left = subst (λ (rest : List Numbered). Progress k (sheet legs) (sheet (take i legs)) rest out (begun c.loop-numbered.sheet) c.loop-numbered.out)
-    (listed_rest row c.args.form c.args.ports legs i c.numbered-item.result (omega arith) c.numbered-item.is) (c.loop-numbered.invariant c.args.form out first) in
+    let left = subst (λ (rest : List Numbered). Progress k (sheet legs) (sheet (take i legs)) rest out (begun c.loop-leg.sheet) c.loop-leg.out)
+    (listed_rest row c.args.form c.args.ports legs i c.leg-item.result (omega arith) c.leg-item.is) (c.loop-leg.invariant c.args.form out first) in
     not_taken k c.strike.new.out c.in-Err.ensures left c.strike.ensures
 
-pub returns-in-Closed : goal.returns-in-Closed
-returns-in-Closed g c =
+pub returns-in-Ok : goal.returns-in-Ok
+returns-in-Ok g c =
     let k = g.K.CostKind.kind in
     let row = g.K.CostKind.row in
     let legs = c.args.legs.now in
-    let i = c.loop-numbered.numbered-index in
+    let i = c.loop-leg.leg-index in
     let out = c.args.out.now in
     let sheet = listed row c.args.form c.args.ports in
     let first = progress_begun k (sheet legs).legs c.in_ok-sheet.ensures (omega arith) in
-    let none = subst (λ (rest : List Numbered). Progress k (sheet legs) (sheet (take i legs)) rest out (begun c.loop-numbered.sheet) c.loop-numbered.out)
-    (listed_none row c.args.form c.args.ports legs i (omega arith)) (c.loop-numbered.invariant c.args.form out first) in
-    let all = subst (λ (done : Sheet). Progress k (sheet legs) done [] out (begun c.loop-numbered.sheet) c.loop-numbered.out)
+    let none = subst (λ (rest : List Numbered). Progress k (sheet legs) (sheet (take i legs)) rest out (begun c.loop-leg.sheet) c.loop-leg.out)
+    (listed_none row c.args.form c.args.ports legs i (omega arith)) (c.loop-leg.invariant c.args.form out first) in
+    let all = subst (λ (done : Sheet). Progress k (sheet legs) done [] out (begun c.loop-leg.sheet) c.loop-leg.out)
     (listed_all row c.args.form c.args.ports legs i (omega arith)) none in
-    subst (λ (m : ℕ). PutsSheet k (sheet legs) out (Ok m) c.close.new.out) (sym c.length.ensures) (all_put k c.in-Closed.ensures all (omega arith))
+    subst (λ (m : ℕ). PutsSheet k (sheet legs) out (Ok m) c.close.new.out) (sym c.length.ensures) (all_put k c.in-Ok.ensures all (omega arith))
 
-pub returns-in-Short : goal.returns-in-Short
-returns-in-Short g c =
+pub returns-in-Err-close : goal.returns-in-Err-close
+returns-in-Err-close g c =
     let k = g.K.CostKind.kind in
     let legs = (listed g.K.CostKind.row c.args.form c.args.ports c.args.legs.now).legs in
-    none_short k c.in-Short.ensures (c.loop-numbered.invariant c.args.form c.args.out.now (progress_begun k legs c.in_ok-sheet.ensures (omega arith)))
+    none_short k c.in-Err-close.ensures (c.loop-leg.invariant c.args.form c.args.out.now (progress_begun k legs c.in_ok-sheet.ensures (omega arith)))

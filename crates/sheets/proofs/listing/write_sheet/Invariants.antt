@@ -6,8 +6,8 @@ use Rattle.sheets.proofs.Progress.{Progress}
 use Rattle.sheets.proofs.listing.write_sheet.Given as goal
 
 -- whatever form and buffer the sheet was begun with, so many legs are put
-abbrev pub invariant-loop-numbered : goal.invariant-loop-numbered
-invariant-loop-numbered g l = (form : Form) (out : List ℕ) →
+abbrev pub invariant-loop-leg : goal.invariant-loop-leg
+invariant-loop-leg g l = (form : Form) (out : List ℕ) →
     let sheet = listed g.K.CostKind.row form l.ports in
     Progress g.K.CostKind.kind (sheet l.legs) (sheet []) (sheet l.legs).legs out (begun l.initial.sheet) l.initial.out
-    → Progress g.K.CostKind.kind (sheet l.legs) (sheet (take l.numbered-index l.legs)) (sheet (drop l.numbered-index l.legs)).legs out (begun l.sheet) l.out
+    → Progress g.K.CostKind.kind (sheet l.legs) (sheet (take l.leg-index l.legs)) (sheet (drop l.leg-index l.legs)).legs out (begun l.sheet) l.out

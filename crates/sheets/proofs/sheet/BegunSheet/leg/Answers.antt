@@ -1,25 +1,23 @@
-use Rattle.std.proofs.Common.{◌≤◌, sym, ap, ◌∙◌, subst}
-use Rattle.charts.specs.Meaning.{Figures}
-use Rattle.columns.specs.Put.{put}
-use Rattle.sheets.specs.Places.{largest}
-use Rattle.sheets.specs.Form.{Numbered, leg_line}
-use Rattle.sheets.specs.Begun.{begun, with_leg}
-use Rattle.sheets.specs.Writing.{numbered}
-use Rattle.sheets.proofs.Calls.{takes}
+use Rattle.std.proofs.Common.{length}
+use Rattle.sheets.specs.Begun.{begun}
+use Rattle.sheets.specs.Writing.{numbered_of}
+use Rattle.sheets.proofs.Calls.{line_fits, takes}
 use Rattle.sheets.proofs.sheet.BegunSheet.leg.Goals as goal
+
+pub put_leg-requires-clause-fits : goal.put_leg-requires-clause-fits
+put_leg-requires-clause-fits g c =
+    let line = c.args.line in
+    line_fits g.K.CostKind.kind (begun c.args.self.now) (numbered_of g.K.CostKind.row line) (length c.args.out.now)
+    c.in_ok-check_line.ensures (g.met.K.SheetKind.bounded line.leg.cost)
+
+pub count-requires-clause-fits : goal.count-requires-clause-fits
+count-requires-clause-fits g c =
+    let line = c.args.line in
+    line_fits g.K.CostKind.kind (begun c.args.self.now) (numbered_of g.K.CostKind.row line) (length c.args.out.now)
+    c.in_ok-check_line.ensures (g.met.K.SheetKind.bounded line.leg.cost)
 
 pub returns : goal.returns
 returns g c =
-    let k = g.K.CostKind.kind in
-    let row = g.K.CostKind.row in
-    let b = begun c.args.self.now in
-    let out = c.args.out.now in
-    let leg = c.args.leg in
-    let with_number : Figures → Numbered = λ f. record { number = c.args.number; leg = f } in
-    let same = c.plain_leg.ensures.same in
-    let count = c.place_count.ensures in
-    takes k b (begun c.write_leg.new.self) (numbered row c.args.number leg) out c.write_leg.new.out
-    (g.K.CostKind.narrow leg.cost) (subst (λ (f : Figures). largest f.cost ≤ k.size (row leg.cost)) same c.plain_leg.ensures.small)
-    (sym c.refuse_line.ensures ∙ c.in_default.is)
-    (rw count at c.write_leg.ensures.sheet ∙ ap (λ (f : Figures). with_leg k.places b (with_number f)) same)
-    (rw count at c.write_leg.ensures.bytes ∙ ap (λ (f : Figures). put out b.end (leg_line k.places (with_number f))) same)
+    let line = c.args.line in
+    takes g.K.CostKind.kind (begun c.args.self.now) _ (numbered_of g.K.CostKind.row line) c.args.out.now c.put_leg.new.out (g.K.CostKind.narrow line.leg.cost)
+    (g.met.K.SheetKind.bounded line.leg.cost) c.in_ok-check_line.ensures c.count.ensures c.put_leg.ensures
