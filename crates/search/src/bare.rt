@@ -9,14 +9,8 @@ use crate::search::find_cheaper;
 use charts::{Chart, Entry, Leg};
 use costs::{CostKind, Money, Rate};
 
-// Whether a leg of so many hours is left out.
-fn skips(idle: bool, hours: u32) -> bool
-    ensures { result ≡ (idle && nat_lt 0 hours) }
-{
-    idle && hours > 0
-}
-
-// The legs of a chart, each of one hour at a cost of one less than nothing; with `idle`, only those of no hours.
+// The legs of a chart, each of one hour at a cost of one less than nothing; with `idle`, only those of no hours. A test
+// of a leg's hours as a closure could not stand in `meaning`, which is a term.
 #[derive(Drop)]
 pub struct Bare<'a, C> {
     chart: &'a C,
@@ -39,18 +33,13 @@ impl<'a, C: Chart> Chart for Bare<'a, C> {
     fn entry(&self, n: usize) -> Entry<Money> {
         match self.chart.entry(n) {
             Entry::Blank => Entry::Blank,
-            Entry::Leg(leg) => {
-                if skips(self.idle, leg.hours) {
-                    Entry::Blank
-                } else {
-                    Entry::Leg(Leg {
-                        from: leg.from,
-                        to: leg.to,
-                        hours: 1,
-                        cost: Money { dollars: -1 },
-                    })
-                }
-            }
+            Entry::Leg(leg) if self.idle && leg.hours > 0 => Entry::Blank,
+            Entry::Leg(leg) => Entry::Leg(Leg {
+                from: leg.from,
+                to: leg.to,
+                hours: 1,
+                cost: Money { dollars: -1 },
+            }),
             Entry::Over => Entry::Over,
         }
     }

@@ -9,7 +9,7 @@ ghost use Rattle.search.specs.Look.{KnownIf};
 
 use crate::bare::any_round;
 use crate::look::{Found, cheaper_of};
-use crate::predecessors::{Predecessors, predecessor};
+use crate::predecessors::{Predecessors, leg_of, predecessor};
 use charts::{Chart, Entry, Leg};
 use costs::{CostKind, Rate};
 use limits::MOST_PORTS;
@@ -23,11 +23,11 @@ fn leg_rate<K: CostKind>(leg: Leg<K>) -> Rate<K> {
 }
 
 // Whether a leg is picked in place of the one picked so far.
-fn is_preferred<C: Chart>(chart: &C, leg: Leg<C::Cost>, pick: usize) -> bool {
-    if pick == 0 {
-        return true;
+fn is_preferred<C: Chart>(chart: &C, leg: Leg<C::Cost>, pick: Option<usize>) -> bool {
+    match pick {
+        None => true,
+        Some(n) => leg_rate(leg).is_cheaper_than(leg_rate(leg_at(chart, n))),
     }
-    leg_rate(leg).is_cheaper_than(leg_rate(leg_at(chart, pick - 1)))
 }
 
 fn pick_entry<C: Chart>(chart: &C, n: usize, picks: &mut [u32])
@@ -38,7 +38,7 @@ fn pick_entry<C: Chart>(chart: &C, n: usize, picks: &mut [u32])
 {
     if let Entry::Leg(leg) = chart.entry(n) {
         let to = leg.to as usize;
-        if is_preferred(chart, leg, picks[to] as usize) {
+        if is_preferred(chart, leg, leg_of(picks[to])) {
             picks[to] = predecessor(n);
         }
     }
@@ -90,15 +90,14 @@ fn cheapest_cycle<C: Chart>(picks: &Predecessors<'_, C>, seen: &mut [u32]) -> Op
 // their table stand no places apart.
 fn picked_round<C: Chart>(
     chart: &C,
-    ports: usize,
     numbers: &mut [u32],
     round: &mut [u16],
 ) -> Option<usize>
-    requires within { Within C.Cost.CostKind.kind (C.Chart.meaning chart.now) }
-    requires ports { ports ≡ (C.Chart.meaning chart.now).ports }
-    requires places { (length numbers.old ≡ ports + ports) × (ports ≤ length round.old) }
+    requires numbers { let ports = (C.Chart.meaning chart.now).ports in length numbers.old ≡ ports + ports }
+    requires round { (C.Chart.meaning chart.now).ports ≤ length round.old }
     ensures { RoundIf (C.Chart.meaning chart.now) round.new result }
 {
+    let ports = chart.ports();
     let (seen, numbers) = numbers.split_at_mut(ports);
     pick_legs(chart, numbers);
     let picks = Predecessors {
@@ -119,7 +118,7 @@ pub fn first_round<C: Chart>(chart: &C, numbers: &mut [u32], round: &mut [u16]) 
     ensures numbers { RestStays (number_places (C.Chart.meaning chart.now).ports) numbers.old numbers.new }
 {
     let ports = chart.ports();
-    match picked_round(chart, ports, &mut numbers[0..2 * ports], round) {
+    match picked_round(chart, &mut numbers[0..2 * ports], round) {
         Some(legs) => Some(legs),
         None => any_round(chart, numbers, round),
     }

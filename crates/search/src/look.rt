@@ -39,7 +39,7 @@ pub fn cheaper_of<K: CostKind>(best: Option<Found<K>>, new: Found<K>) -> Found<K
 
 impl<'a, C: Chart> Predecessors<'a, C> {
     // The repeat to which a port leads back. A port without a predecessor needs no walk.
-    pub fn repeat_from(&self, port: usize, seen: &mut [u32]) -> Option<Found<C::Cost>>
+    pub(crate) fn repeat_from(&self, port: usize, seen: &mut [u32]) -> Option<Found<C::Cost>>
         requires some { 0 < self.now.layers }
         requires port { port < (C.Chart.meaning self.now.chart.now).ports }
         requires seen { length seen.old ≡ (C.Chart.meaning self.now.chart.now).ports }
@@ -70,7 +70,7 @@ impl<'a, C: Chart> Predecessors<'a, C> {
     }
 
     // Writes a repeat in front of the buffer.
-    pub fn write_found(&self, found: Found<C::Cost>, round: &mut [u16]) -> Held<C::Cost>
+    pub(crate) fn write_found(&self, found: Found<C::Cost>, round: &mut [u16]) -> Held<C::Cost>
         requires known { Known C.Cost.CostKind.row (C.Chart.meaning self.now.chart.now) self.now.width self.now.numbers.now self.now.layers found }
         requires round { (C.Chart.meaning self.now.chart.now).ports ≤ length round.old }
         ensures { Written C.Cost.CostKind.row (C.Chart.meaning self.now.chart.now) self.now.width self.now.numbers.now self.now.layers round.new result }

@@ -10,10 +10,7 @@ use costs::CostKind;
 fn is_over<C: Chart>(chart: &C, n: usize) -> bool
     ensures { result ≡ shows_over (shown_at (C.Chart.meaning chart.now) n) }
 {
-    match chart.entry(n) {
-        Entry::Over => true,
-        _ => false,
-    }
+    matches!(chart.entry(n), Entry::Over)
 }
 
 pub fn has_over<C: Chart>(chart: &C) -> bool

@@ -6,8 +6,8 @@ ghost use Rattle.search.specs.Predecessors.{pred_at, Led};
 use charts::Chart;
 
 // Rows of numbers, `width` places apart, one for each of so many layers of a chart: at the place of a port 0, or the
-// number and 1 of the leg by which it was reached. They are plain numbers, as the lent area is; they are written by
-// `predecessor` and read by `leg`.
+// number and 1 of the leg by which it was reached. The lent area is of plain numbers that are zero again, so they are no
+// options: `predecessor` writes one, and `leg_of` reads it.
 #[derive(Drop)]
 pub struct Predecessors<'a, C: Chart> {
     pub chart: &'a C,
@@ -25,6 +25,13 @@ pub fn predecessor(n: usize) -> u32
     n as u32 + 1
 }
 
+// The number of the leg that a predecessor is.
+pub fn leg_of(predecessor: u32) -> Option<usize>
+    ensures { MatchOption result (predecessor ≡ 0) (λ leg. predecessor ≡ leg + 1) }
+{
+    (predecessor as usize).checked_sub(1)
+}
+
 impl<'a, C: Chart> Predecessors<'a, C> {
     // The number of the leg by which a port was reached in the layer after `layer`.
     pub fn leg(&self, layer: usize, port: usize) -> Option<usize>
@@ -32,6 +39,6 @@ impl<'a, C: Chart> Predecessors<'a, C> {
         requires port { port < (C.Chart.meaning self.now.chart.now).ports }
         ensures { let n = pred_at self.now.width self.now.numbers.now layer port in MatchOption result (n ≡ 0) (λ leg. n ≡ leg + 1) }
     {
-        (self.numbers[layer * self.width + port] as usize).checked_sub(1)
+        leg_of(self.numbers[layer * self.width + port])
     }
 }

@@ -51,6 +51,8 @@ fn is_looked_at(layer: usize, ports: usize) -> bool
     layer == ports || layer.is_power_of_two()
 }
 
+// The parts are passed one by one: behind a struct of them each contract would have to say of each part that it is still
+// the caller's.
 fn search_layers<C: Chart>(
     chart: &C,
     rate: Rate<C::Cost>,

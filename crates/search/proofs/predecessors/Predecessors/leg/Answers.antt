@@ -1,14 +1,6 @@
-use Rattle.std.proofs.Common.{◌≡◌, ℕ, ◌+◌, ◌-◌, ◌≤◌, Option, Some, None, SomeIff, MatchOption, arith}
 use Rattle.search.specs.Predecessors.{pred_at}
 use Rattle.search.proofs.predecessors.Predecessors.leg.Goals as goal
 
-read : (o : Option ℕ) (n : ℕ) → SomeIff o (1 ≤ n) (n - 1) → MatchOption o (n ≡ 0) (λ leg. n ≡ leg + 1)
-read None n h = elim_zero n h
-  where
-    elim_zero : (n : ℕ) → (1 ≤ n → ⊥) → n ≡ 0
-    elim_zero n h = omega arith
-read (Some leg) n h = omega (arith, h.0, h.1)
-
 pub returns : goal.returns
 unfolding pred_at
-returns g c = read c.checked_sub.result _ c.checked_sub.ensures
+returns g c = c.leg_of.ensures
