@@ -39,7 +39,7 @@ fn is_cycle(legs: &[Leg<Money>]) -> bool {
 }
 
 impl Cycles {
-    // The simple cycles among the legs of a table.
+    // The simple cycles among the legs of a table; one function for each leg of a cycle, so that each has one loop.
     pub fn of(table: &[Option<Leg<Money>>]) -> Cycles {
         let mut all = Cycles::default();
         for a in table.iter().flatten() {

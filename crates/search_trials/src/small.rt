@@ -50,7 +50,7 @@ impl<'a> Family<'a> {
         pairs.saturating_mul(prices).saturating_add(1)
     }
 
-    // The place of a code: 0 for none, and else a leg.
+    // The place of a code: 0 for none, and else a leg. By division, since a list of all places would take four loops in one another.
     fn place(&self, code: usize) -> Option<Leg<Money>> {
         let n = code.checked_sub(1)?;
         let from = u16::try_from(n.checked_rem(self.ports)?).ok()?;

@@ -35,6 +35,7 @@ fn tell_least(rt: &impl Print, chart: &impl Chart<Cost = Money>) -> io::Result<(
     let mut numbers = [0; 12];
     let mut round = [0; 3];
     match find_least(chart, &mut costs, &mut numbers, &mut round) {
+        // cut at the buffer, since what bounds the legs is the ports of the chart, and any chart may come
         Ok(held) => tell_found(rt, held.rate, &round[..held.legs.min(3)], &costs[..3])?,
         Err(refusal) => println!(rt; "  {refusal}")?,
     }

@@ -11,6 +11,7 @@ fn tell_sheet(rt: &impl Print, form: Form, legs: &[NumberedLeg<Money>]) -> io::R
     let mut out = [0; 256];
     match write_sheet(form, 3, legs, &mut out) {
         Ok(length) => {
+            // cut at the buffer: the contract tells the length of the sheet and states no bound of it
             for byte in &out[..length.min(256)] {
                 print!(rt; "{}", char::from(*byte))?;
             }

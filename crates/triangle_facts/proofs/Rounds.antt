@@ -1,5 +1,5 @@
 -- The rounds 0, 1 and 0, 2, 3 of charts of three ports, with what they cost and take. Assumes nothing.
-use Rattle.std.proofs.Common.{◌≡◌, ℕ, true, false, map, refl, lit<, lit≤}
+use Rattle.std.proofs.Common.{◌≡◌, ℕ, true, false, map, refl, lit<, lit≤, rules}
 use Rattle.rows.specs.Rows.{Row, zero_row, sum, times}
 use Rattle.rows.specs.Orders.{by_dollars, by_dollars_then_tonnes}
 use Rattle.charts.specs.Meaning.{Meaning}
@@ -37,18 +37,18 @@ module _ (m : Meaning) (c : Row) (t : ℕ) where
 
 pub long_round_at : (c : Row) → RoundAt (triangle_at c) long_round (minus 2400) 120
 unfolding sum zero_row
-long_round_at c = long_at _ _ _ (refl, refl, (refl, refl, (refl, refl, refl))) refl refl refl
+long_round_at c = long_at _ _ _ (search rules) refl refl refl
 
 pub short_round_at : RoundAt (triangle_at (minus 1)) short_round (minus 1201) 60
 unfolding sum zero_row
-short_round_at = short_at _ _ _ (refl, refl, (refl, refl, refl)) refl refl refl
+short_round_at = short_at _ _ _ (search rules) refl refl refl
 
 pub short_cheaper : cheaper_than by_dollars (triangle_at (minus 1)) short_round long_round ≡ true
 unfolding sum zero_row times
 short_cheaper = refl
 
 pub both_close : ClosedWalk triangle both_rounds
-both_close = record { port = 0; some = lit< tt; back = (refl, refl, (refl, refl, (refl, refl, (refl, refl, (refl, refl, refl))))) }
+both_close = record { port = 0; some = lit< tt; back = search rules }
 
 pub both_rate : RateIs triangle both_rounds (minus 3300) 180
 unfolding sum zero_row
@@ -60,27 +60,27 @@ both_not_cheaper = refl
 
 pub closed_short : RoundAt port_2_closed short_round (minus 900) 60
 unfolding sum zero_row
-closed_short = short_at _ _ _ (refl, refl, (refl, refl, refl)) refl refl refl
+closed_short = short_at _ _ _ (search rules) refl refl refl
 
 pub stayed_long : RoundAt (stayed triangle) long_round (minus 2400) 130
 unfolding sum zero_row
-stayed_long = long_at _ _ _ (refl, refl, (refl, refl, (refl, refl, refl))) refl refl refl
+stayed_long = long_at _ _ _ (search rules) refl refl refl
 
 pub hired_stayed_long : RoundAt (hired (stayed triangle)) long_round (minus 1750) 130
 unfolding sum zero_row times
-hired_stayed_long = long_at _ _ _ (refl, refl, (refl, refl, (refl, refl, refl))) refl refl refl
+hired_stayed_long = long_at _ _ _ (search rules) refl refl refl
 
 pub stayed_hired_long : RoundAt (stayed (hired triangle)) long_round (minus 1800) 130
 unfolding sum zero_row times
-stayed_hired_long = long_at _ _ _ (refl, refl, (refl, refl, (refl, refl, refl))) refl refl refl
+stayed_hired_long = long_at _ _ _ (search rules) refl refl refl
 
 pub tonnes_short : RoundAt triangle_with_tonnes short_round (and_tonnes (minus 1200) 60) 60
 unfolding sum zero_row
-tonnes_short = short_at _ _ _ (refl, refl, (refl, refl, refl)) refl refl refl
+tonnes_short = short_at _ _ _ (search rules) refl refl refl
 
 pub tonnes_long : RoundAt triangle_with_tonnes long_round (and_tonnes (minus 2400) 130) 120
 unfolding sum zero_row
-tonnes_long = long_at _ _ _ (refl, refl, (refl, refl, (refl, refl, refl))) refl refl refl
+tonnes_long = long_at _ _ _ (search rules) refl refl refl
 
 pub tonnes_cheaper : cheaper_than by_dollars_then_tonnes triangle_with_tonnes short_round long_round ≡ true
 unfolding sum zero_row times

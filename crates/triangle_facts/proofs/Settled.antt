@@ -1,5 +1,5 @@
 -- Marks that no leg makes lower, and so the best rounds. Assumes nothing.
-use Rattle.std.proofs.Common.{◌≡◌, ℕ, zero, suc, ◌<◌, true, false, [], ◌∷◌, sym, refl, ◌∙◌, lit<}
+use Rattle.std.proofs.Common.{◌≡◌, ℕ, zero, suc, ◌<◌, true, false, [], ◌∷◌, sym, refl, ◌∙◌, lit<, rules}
 use Rattle.rows.specs.Rows.{Row, zero_row, sum, negative, times}
 use Rattle.rows.specs.Orders.{by_dollars}
 use Rattle.rows.proofs.Order.{clash}
@@ -26,10 +26,10 @@ pub settled_best : (m : Meaning) → LegsJoinPorts m → (c : Row) (t : ℕ) (d 
 settled_best m J c t d s ns o = sym (weight_tells m c t by_dollars by_dollars_laws ns) ∙ settled_closed by_dollars by_dollars_laws m J (leg_weight m c t) d s ns o
 
 triangle_joins : (c : Row) → LegsJoinPorts (triangle_at c)
-triangle_joins c = of_four (triangle_at c) _ (λ n. refl) (lit< tt, lit< tt) (lit< tt, lit< tt) (lit< tt, lit< tt) (lit< tt, lit< tt)
+triangle_joins c = of_four (triangle_at c) _ (λ n. refl) (search rules) (search rules) (search rules) (search rules)
 
 closed_joins : LegsJoinPorts port_2_closed
-closed_joins = of_four port_2_closed _ (λ n. refl) (lit< tt, lit< tt) (lit< tt, lit< tt) (lit< tt, lit< tt) (lit< tt, lit< tt)
+closed_joins = of_four port_2_closed _ (λ n. refl) (search rules) (search rules) (search rules) (search rules)
 
 -- the marks against −2,400 dollars in 120 hours
 abbrev marks : ℕ → Row
@@ -91,8 +91,8 @@ mark_0 = mark_of 0 (lit< tt) (record { start = 0; legs = []; leads = refl; weigh
 
 pub mark_1 : Mark by_dollars triangle (minus 2400) 120 1 (minus 48000)
 unfolding sum zero_row times negative
-mark_1 = mark_of 1 (lit< tt) (record { start = 0; legs = 0 ∷ []; leads = (refl, refl, refl); weighs = refl })
+mark_1 = mark_of 1 (lit< tt) (record { start = 0; legs = 0 ∷ []; leads = search rules; weighs = refl })
 
 pub mark_2 : Mark by_dollars triangle (minus 2400) 120 2 (minus 48000)
 unfolding sum zero_row times negative
-mark_2 = mark_of 2 (lit< tt) (record { start = 0; legs = 0 ∷ (2 ∷ []); leads = (refl, refl, (refl, refl, refl)); weighs = refl })
+mark_2 = mark_of 2 (lit< tt) (record { start = 0; legs = 0 ∷ (2 ∷ []); leads = search rules; weighs = refl })
