@@ -39,6 +39,7 @@ impl LineWriter<'_> {
         self.at += 1;
     }
 
+    #[tactic(auto, using(columns::proofs::Columns::length_column, columns::proofs::Putting::fits_kept))]
     fn put_number<N: Numeral>(&mut self, width: usize, n: N)
         requires room { self.old.at + width ≤ length self.old.out.now }
         requires fits { (0 < width) × (unsigned_abs (N.number n) < 10 ^ (width - N.sign_width)) }

@@ -11,6 +11,7 @@ use crate::places::Places;
 
 impl Tally {
     // The tally of a sheet's first line.
+    #[tactic(auto, unfolding(rows::specs::Rows::zero_row))]
     pub fn open(form: Form, ports: usize) -> Tally
         ensures { tallied result ≡ opened form ports }
     {
