@@ -88,11 +88,7 @@ fn cheapest_cycle<C: Chart>(picks: &Predecessors<'_, C>, seen: &mut [u32]) -> Op
 
 // The cheapest cycle of picks in front of the buffer, where there is one. Picks serve every layer alike, so the rows of
 // their table stand no places apart.
-fn picked_round<C: Chart>(
-    chart: &C,
-    numbers: &mut [u32],
-    round: &mut [u16],
-) -> Option<usize>
+fn picked_round<C: Chart>(chart: &C, numbers: &mut [u32], round: &mut [u16]) -> Option<usize>
     requires numbers { let ports = (C.Chart.meaning chart.now).ports in length numbers.old ≡ ports + ports }
     requires round { (C.Chart.meaning chart.now).ports ≤ length round.old }
     ensures { RoundIf (C.Chart.meaning chart.now) round.new result }

@@ -12,8 +12,8 @@ loop-port-preserved g c =
     let Known = KnownIf row m s.width s.numbers.now s.layers in
     elim c.if-not-done-port.branch [
       | then-not-done-port w ↦ subst Known (sym w.best-is) (elim w.match-repeat_from.branch [
-          | in-Some v ↦ subst Known (sym v.best-is) (known_more row m s.width s.numbers.now s.layers c.loop-port.best _ _ c.loop-port.invariant v.in-Some.ensures v.cheaper_of.ensures)
-          | in_default v ↦ subst Known (sym v.best-is) c.loop-port.invariant
-        ])
+        | in-Some v ↦ subst Known (sym v.best-is) (known_more row m s.width s.numbers.now s.layers c.loop-port.best _ _ c.loop-port.invariant v.in-Some.ensures v.cheaper_of.ensures)
+        | in_default v ↦ subst Known (sym v.best-is) c.loop-port.invariant
+      ])
       | else-not-done-port w ↦ subst Known (sym w.best-is) c.loop-port.invariant
     ]
