@@ -71,34 +71,30 @@ fn fills_the_widest_columns(rt: HostRuntime) {
     );
 }
 
-// The refusal of a leg after leg 7 of a sheet of three ports.
-fn refusal_after_seven(form: Form, next: NumberedLeg<Money>) -> Option<Refusal> {
-    match write_sheet(form, 3, &[sailed(7, 0, 1, 1, 1), next], &mut [0; 200]) {
-        Ok(_) => None,
-        Err(refusal) => Some(refusal),
-    }
+// What a leg after leg 7 of a sheet of three ports is answered.
+fn answer_after_seven(form: Form, next: NumberedLeg<Money>) -> Result<(), Refusal> {
+    write_sheet(form, 3, &[sailed(7, 0, 1, 1, 1), next], &mut [0; 200])?;
+    Ok(())
 }
 
 #[test]
 fn refuses_in_order(rt: HostRuntime) {
-    assert!(rt; refusal_after_seven(Form::Chart, sailed(8, 0, 1, 9_999, 999_999_999)) == None);
+    assert!(rt; answer_after_seven(Form::Chart, sailed(8, 0, 1, 9_999, 999_999_999)) == Ok(()));
     assert!(rt;
-        refusal_after_seven(Form::Chart, sailed(7, 3, 3, 10_000, 1_000_000_000))
-            == Some(Refusal::Number)
+        answer_after_seven(Form::Chart, sailed(7, 3, 3, 10_000, 1_000_000_000))
+            == Err(Refusal::Number)
+    );
+    assert!(rt; answer_after_seven(Form::Round, sailed(4_096, 0, 1, 1, 1)) == Err(Refusal::Number));
+    assert!(rt;
+        answer_after_seven(Form::Round, sailed(7, 0, 3, 10_000, 1_000_000_000))
+            == Err(Refusal::Port)
     );
     assert!(rt;
-        refusal_after_seven(Form::Round, sailed(4_096, 0, 1, 1, 1)) == Some(Refusal::Number)
+        answer_after_seven(Form::Round, sailed(7, 0, 1, 10_000, 1_000_000_000))
+            == Err(Refusal::Hours)
     );
     assert!(rt;
-        refusal_after_seven(Form::Round, sailed(7, 0, 3, 10_000, 1_000_000_000))
-            == Some(Refusal::Port)
-    );
-    assert!(rt;
-        refusal_after_seven(Form::Round, sailed(7, 0, 1, 10_000, 1_000_000_000))
-            == Some(Refusal::Hours)
-    );
-    assert!(rt;
-        refusal_after_seven(Form::Round, sailed(7, 0, 1, 1, 1_000_000_000)) == Some(Refusal::Cost)
+        answer_after_seven(Form::Round, sailed(7, 0, 1, 1, 1_000_000_000)) == Err(Refusal::Cost)
     );
     assert!(rt; write_sheet::<Money>(Form::Round, 0, &[], &mut [0; 9]) == Err(Refusal::Port));
     assert!(rt; write_sheet::<Money>(Form::Round, 257, &[], &mut [0; 99]) == Err(Refusal::Port));
