@@ -1,11 +1,11 @@
 -- What comes of a leg line. Assumes nothing.
-use Rattle.std.proofs.Common.{◌≡◌, ℕ, ◌+◌, ◌<◌, ◌≤◌, List, [], ◌∷◌, ◌++◌, get_or, drop, Some, None, sym, ap, ◌∙◌, subst, arith}
+use Rattle.std.proofs.Common.{◌≡◌, ℕ, ◌+◌, ◌<◌, ◌≤◌, List, [], ◌∷◌, ◌++◌, get_or, drop, nat_abs, Some, None, sym, ap, ◌∙◌, subst, arith}
 use Rattle.std.proofs.lemmas.List.{append_assoc, length-append}
 use Rattle.std.proofs.ByRecursion.{All-push}
-use Rattle.limits.specs.Numbers.{most_legs, most_cost}
+use Rattle.limits.specs.Numbers.{most_legs, most_hours, most_cost}
 use Rattle.limits.specs.declared.refusal.Refusal.{Refusal}
 use Rattle.limits.specs.declared.refusal.Refusal.TheVariants.{Malformed}
-use Rattle.rows.specs.Rows.{Narrow}
+use Rattle.rows.specs.Rows.{place, Narrow}
 use Rattle.rows.specs.Kinds.{Kind}
 use Rattle.charts.specs.Limits.{leg_refusal}
 use Rattle.sheets.specs.Places.{largest}
@@ -14,6 +14,7 @@ use Rattle.sheets.specs.declared.tally.Tally.{Tally}
 use Rattle.sheets.specs.Begun.{Begun, tallied, with_leg, number_refusal_below}
 use Rattle.sheets.specs.Writing.{with_line, numbers_of}
 use Rattle.sheets.proofs.Held.{leg_lines_more, proper_more, numbers_more}
+use Rattle.sheets.proofs.Sums.{largest_within}
 use Rattle.sheets.proofs.Taken.{either_none, number_taken, leg_taken}
 use Rattle.sheet_texts.specs.Columns.{LegColumns}
 use Rattle.sheet_texts.specs.Faults.{Limits, Readable, FaultAt, front_bytes, last_line, next_refusal, next_leg_refusal}
@@ -33,6 +34,15 @@ no_last_line n s b bs more other is = other (first_byte is)
 pub no_leg_line : (n : ℕ) (l : Numbered) (b : ℕ) (bs more : List ℕ) → (b ≡ leg_letter → ⊥) → b ∷ bs ≡ leg_line n l ++ more → ⊥
 unfolding leg_line
 no_leg_line n l b bs more other is = other (first_byte is)
+
+-- a leg that is not refused can be counted
+pub leg_fits : (k : Kind) (most : ℕ) (b : Begun) (l : Numbered) → most ≤ most_legs → ((i : ℕ) → nat_abs (place l.leg.cost i) ≤ k.size l.leg.cost) → next_refusal k most b l ≡ None
+    → (l.number < most_legs) × ((l.leg.hours ≤ most_hours) × (largest l.leg.cost ≤ most_cost))
+leg_fits k most b l limit bounded none =
+    let both = either_none (number_refusal_below most b l.number) (leg_refusal k b.ports l.leg) none in
+    let number = number_taken most b l.number both.0 in
+    let allowed = leg_taken k b.ports l.leg both.1 in
+    (omega (arith, number.0), (allowed.few_hours, omega (arith, largest_within l.leg.cost (k.size l.leg.cost) bounded, allowed.small_cost)))
 
 -- the sheet that is read, with one leg more
 readable_more : (k : Kind) (m : Limits) (s : Sheet) (l : Numbered) → m.numbers ≤ most_legs → Readable k m s → Narrow k.places l.leg.cost → largest l.leg.cost ≤ most_cost

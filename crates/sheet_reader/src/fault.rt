@@ -29,7 +29,7 @@ impl fmt::Display for Fault {
     ghost output = { λ f. Some (told f) };
 
     fn fmt<W: fmt::Write>(&self, f: &mut fmt::Formatter<W>) -> fmt::Result {
-        write!(f, "refused, {}", self.refusal.number())?;
+        write!(f, "{}", self.refusal)?;
         match self.line {
             Some(line) => write!(f, " in line {line}"),
             None => Ok(()),

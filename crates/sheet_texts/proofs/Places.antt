@@ -1,23 +1,24 @@
 -- The places of a cost, read one after the other. Assumes nothing.
-use Rattle.std.proofs.Common.{◌≡◌, ℕ, zero, suc, ◌+◌, ◌*◌, List, replicate, ℤ, pos, sym, refl, ◌∙◌, subst, ⊎_elim, mul-zero, mul-one, mul-add, arith}
+use Rattle.std.proofs.Common.{◌≡◌, ℕ, ◌+◌, ◌*◌, ◌<◌, ◌≤◌, List, length, set, get_or-set_same, get_or-set_other, length-set, ℤ, pos, sym, ◌∙◌, subst, ⊎_elim, mul-one, mul-add, arith}
 use Rattle.std.proofs.lemmas.Bool.{cases_lt}
 use Rattle.limits.specs.Numbers.{most_places}
 use Rattle.rows.specs.Rows.{place}
 use Rattle.columns.specs.Columns.{Shows}
 use Rattle.sheets.specs.declared.places.Places.{Places}
 use Rattle.sheets.specs.Places.{row_of}
+use Rattle.sheets.proofs.Sums.{place_at}
 use Rattle.sheet_texts.specs.Lines.{Replaced, ReadPlaces}
 
-narrow_none : (i : ℕ) → place (record { first = pos 0; second = pos 0; third = pos 0; fourth = pos 0 }) i ≡ pos 0
-narrow_none zero = refl
-narrow_none (suc zero) = refl
-narrow_none (suc (suc zero)) = refl
-narrow_none (suc (suc (suc zero))) = refl
-narrow_none (suc (suc (suc (suc i)))) = refl
-
-pub read_none : (text : List ℕ) (at w : ℕ) → ReadPlaces text at w 0 (record { numbers = replicate most_places (pos 0) }) at
-read_none text at w =
-    record { shown = λ i below. absurd (omega arith); narrow = λ i _. narrow_none i; next_is = omega (arith, mul-zero w) }
+-- a number that is put into a place replaces it
+pub place_put : (p : Places) (i : ℕ) (z : ℤ) → length p.numbers ≡ most_places → i < most_places → Replaced (row_of p) i z (row_of (record { numbers = set p.numbers i z }))
+place_put p i z long below =
+    let p' : Places = record { numbers = set p.numbers i z } in
+    let long' : length p'.numbers ≤ most_places = omega (arith, long, length-set p.numbers i z) in
+    let within : i < length p.numbers = omega (arith, long) in
+    record {
+      there = place_at p' i long' ∙ get_or-set_same p.numbers i z (pos 0) within;
+      elsewhere = λ j other. place_at p' j long' ∙ get_or-set_other p.numbers i j z (pos 0) other ∙ sym (place_at p j (omega (arith, long)));
+    }
 
 pub read_more : {text : List ℕ} {at w i next after : ℕ} {p p' : Places} (z : ℤ) → ReadPlaces text at w i p next → Shows text next w z → after ≡ next + w
     → Replaced (row_of p) i z (row_of p') → ReadPlaces text at w (i + 1) p' after

@@ -5,7 +5,7 @@ ghost use Rattle.rows.specs.Rows.{Row, Narrow};
 ghost use Rattle.sheets.specs.Places.{row_of};
 ghost use Rattle.sheets.specs.Form.{line_feed, Numbered};
 ghost use Rattle.sheet_texts.specs.Columns.{ShowsPlaces, HeadColumns, LegColumns, EndColumns};
-ghost use Rattle.sheet_texts.specs.Lines.{line_leg, Replaced, ReadPlaces};
+ghost use Rattle.sheet_texts.specs.Lines.{line_leg, ReadPlaces};
 
 use columns::read_number;
 use sheets::Places;
@@ -37,15 +37,6 @@ fn ends_line(columns: &[u8], at: usize) -> bool
     columns.get(at) == Some(&LINE_FEED)
 }
 
-// The places with another number in place i.
-fn with_place(mut places: Places, i: usize, z: i64) -> Places
-    requires { i < most_places }
-    ensures { Replaced (row_of places) i z (row_of result) }
-{
-    places.numbers[i] = z;
-    places
-}
-
 // So many places of a cost, each in a column, and the next place.
 fn read_places(columns: &[u8], at: usize, width: usize, count: usize) -> Option<(Places, usize)>
     requires { count ≤ most_places }
@@ -55,7 +46,7 @@ fn read_places(columns: &[u8], at: usize, width: usize, count: usize) -> Option<
     let mut next = at;
     for i in 0..count {
         let (z, after) = read_number(columns, next, width)?;
-        places = with_place(places, i, z);
+        places.numbers[i] = z;
         next = after;
     }
     Some((places, next))

@@ -1,12 +1,12 @@
 // From a table to its sheet and back.
-use crate::tables::{filled, is_same_table, written};
+use crate::tables::{filled, written};
 use charts::Leg;
 use sheet_reader::read_sheet;
 use sheets::SheetKind;
 use std::alloc::{AllocError, Global};
 
 // Whether a table comes back from its sheet, and the sheet from the table that came back.
-pub fn comes_back<K: SheetKind>(
+pub fn comes_back<K: SheetKind + PartialEq>(
     heap: Global,
     ports: usize,
     table: &[Option<Leg<K>>],
@@ -17,9 +17,5 @@ pub fn comes_back<K: SheetKind>(
         return Ok(false);
     };
     let again = written(heap, found, read.as_slice())?;
-    Ok(
-        found == ports
-            && is_same_table(table, read.as_slice())
-            && again.as_slice() == sheet.as_slice(),
-    )
+    Ok(found == ports && table == read.as_slice() && again.as_slice() == sheet.as_slice())
 }

@@ -63,14 +63,12 @@ fn answer_of(read: Result<usize, Fault>) -> Answer {
 fn tell(rt: &HostRuntime, name: &str, answer: Answer) -> io::Result<()> {
     match answer {
         Ok(ports) => println!(rt; "  {name}: accepted, {ports} ports"),
-        Err((refusal, line)) => {
-            println!(rt; "  {name}: refused, {} in line {line}", refusal.number())
-        }
+        Err((refusal, line)) => println!(rt; "  {name}: {refusal} in line {line}"),
     }
 }
 
 // A refused text leaves every place as it was; what an accepted one leaves gives the same text when it is written.
-fn is_table_right<K: SheetKind>(
+fn is_table_right<K: SheetKind + PartialEq>(
     heap: Global,
     answer: Answer,
     text: &[u8],
@@ -86,7 +84,7 @@ fn is_table_right<K: SheetKind>(
 }
 
 // Whether a case is answered as it should be, in a table of so many places.
-fn is_right<K: SheetKind>(
+fn is_right<K: SheetKind + PartialEq>(
     rt: &HostRuntime,
     case: Case,
     most_ports: usize,
@@ -102,7 +100,7 @@ fn is_right<K: SheetKind>(
     )
 }
 
-pub fn try_cases<K: SheetKind>(
+pub fn try_cases<K: SheetKind + PartialEq>(
     rt: &HostRuntime,
     name: &str,
     cases: &[Case],

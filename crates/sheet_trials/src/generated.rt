@@ -78,7 +78,7 @@ impl Draws {
     }
 }
 
-fn try_charts<K: SheetKind>(rt: &HostRuntime, name: &str) -> io::Result<()> {
+fn try_charts<K: SheetKind + PartialEq>(rt: &HostRuntime, name: &str) -> io::Result<()> {
     let mut draws = Draws { state: 2026 };
     let mut differ: u32 = 0;
     // Counted in a loop, since memory may run out for any chart.

@@ -72,11 +72,8 @@ fn write_into(rt: &HostRuntime, bytes: usize) -> io::Result<()> {
     match write_sheet(Form::Chart, 256, legs.as_slice(), &mut out) {
         Ok(length) => println!(rt; "  into {bytes} bytes: written, {length} bytes"),
         Err(refusal) => {
-            let number = refusal.number();
             let struck = is_struck(out.as_slice());
-            println!(rt;
-                "  into {bytes} bytes: refused, {number}; what was written is struck: {struck}"
-            )
+            println!(rt; "  into {bytes} bytes: {refusal}; what was written is struck: {struck}")
         }
     }
 }

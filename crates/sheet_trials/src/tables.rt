@@ -22,30 +22,9 @@ pub fn filled<K: SheetKind>(
     Ok(vec![in heap; Some(known_leg()); length]?)
 }
 
-fn is_same_leg<K: SheetKind>(a: Leg<K>, b: Leg<K>) -> bool {
-    a.from == b.from && a.to == b.to && a.hours == b.hours && a.cost.places() == b.cost.places()
-}
-
-fn is_same_place<K: SheetKind>(a: Option<Leg<K>>, b: Option<Leg<K>>) -> bool {
-    match (a, b) {
-        (Some(a), Some(b)) => is_same_leg(a, b),
-        (None, None) => true,
-        _ => false,
-    }
-}
-
 // Whether every place is still as it was filled.
-pub fn is_filled<K: SheetKind>(table: &[Option<Leg<K>>]) -> bool {
-    table
-        .iter()
-        .all(|place| is_same_place(*place, Some(known_leg())))
-}
-
-pub fn is_same_table<K: SheetKind>(a: &[Option<Leg<K>>], b: &[Option<Leg<K>>]) -> bool {
-    a.len() == b.len()
-        && a.iter()
-            .zip(b)
-            .all(|(left, right)| is_same_place(*left, *right))
+pub fn is_filled<K: SheetKind + PartialEq>(table: &[Option<Leg<K>>]) -> bool {
+    table.iter().all(|place| *place == Some(known_leg()))
 }
 
 // The legs of a table, without its blanks.

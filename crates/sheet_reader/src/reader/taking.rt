@@ -32,16 +32,8 @@ fn check_line<K: SheetKind>(tally: &Tally, bounds: Bounds, line: LegLine<K>) -> 
     check_figures(tally.ports, line.from, line.to, line.hours, line.cost)
 }
 
-// Counts a leg line that may come next.
-fn count_line<K: SheetKind>(tally: &mut Tally, bounds: Bounds, line: LegLine<K>)
-    requires { next_refusal K.CostKind.kind bounds.numbers (tallied tally.old) (line_leg K.CostKind.row line) ≡ None }
-    ensures tally { tallied tally.new ≡ with_leg K.CostKind.kind.places (tallied tally.old) (line_leg K.CostKind.row line) }
-    ensures small { largest (K.CostKind.row line.cost) ≤ most_cost }
-{
-    tally.count(line.number as usize, line.hours as u32, line.cost);
-}
-
 // Whether two costs are equal, place by place.
+// By a function of its own, since a proof knows how long an array is where it comes by value, and not behind a reference.
 fn is_same_cost(a: Places, b: Places) -> bool
     ensures { Decides result (row_of a ≡ row_of b) }
 {
@@ -74,7 +66,7 @@ fn take_leg<K: SheetKind>(
 {
     let line: LegLine<K> = read_line(columns).ok_or(Refusal::Malformed)?;
     check_line(tally, bounds, line)?;
-    count_line(tally, bounds, line);
+    tally.count(line.number as usize, line.hours as u32, line.cost);
     Ok(leg_length::<K>())
 }
 
