@@ -1,5 +1,5 @@
 // The cost kinds that can be put on a sheet.
-ghost use Rattle.std.specs.Prelude.{◌≡◌, ℕ, ◌<◌, ◌≤◌, unsigned_abs};
+ghost use Rattle.std.specs.Prelude.{◌≡◌, ℕ, ◌≤◌, unsigned_abs};
 ghost use Rattle.rows.specs.Rows.{place};
 ghost use Rattle.sheets.specs.Places.{row_of, SamePlaces};
 ghost use Rattle.std.proofs.Common.{rules};
@@ -7,7 +7,7 @@ ghost use Rattle.std.proofs.Common.{rules};
 use crate::places::Places;
 use costs::{CostKind, Money, MoneyTonnes};
 
-// A cost kind that gives its places and is made of them.
+// A cost kind that gives its places and is made of them: by methods and not by From, since a value leaves out the places past its own.
 pub trait SheetKind: CostKind {
     // The places as plain numbers; past its last place a value has zeros.
     fn places(self) -> Places
