@@ -13,6 +13,7 @@ pub fn check_text<K: SheetKind>(text: &[u8], bounds: Bounds) -> Result<Tally, Fa
     let mut reader = Reader::Head;
     let mut rest = text;
     let mut line: usize = 1;
+    // The line is counted beside what is left of the text, since each line tells its own length and the loop yields the fault with it.
     loop {
         if rest.is_empty() {
             break reader.ended().ok_or(Fault::at(line, Refusal::Malformed));

@@ -41,6 +41,7 @@ pub fn place_legs<K: SheetKind>(text: &[u8], legs: usize, table: &mut [Option<Le
         → table_figures K.CostKind.row table.new ≡ placed ls (table_figures K.CostKind.row table.old) }
 {
     let mut rest = text;
+    // Line after line and not by chunks, since the rest of the text is what the contract of a line speaks of.
     for _line in 0..legs {
         rest = place_leg(rest, table);
     }

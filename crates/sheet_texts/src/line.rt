@@ -44,6 +44,7 @@ fn read_places(columns: &[u8], at: usize, width: usize, count: usize) -> Option<
 {
     let mut places = Places::ZERO;
     let mut next = at;
+    // By number, since a proof knows no element that is written through the items of a part of an array.
     for i in 0..count {
         let (z, after) = read_number(columns, next, width)?;
         places.numbers[i] = z;

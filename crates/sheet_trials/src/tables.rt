@@ -1,6 +1,6 @@
 // Tables of legs, filled, compared and written as sheets.
 use charts::Leg;
-use sheets::form::HEAD_LENGTH;
+use sheets::form::{HEAD_LENGTH, end_length, leg_length};
 use sheets::{Form, NumberedLeg, SheetKind, write_sheet};
 use std::alloc::{AllocError, Global};
 
@@ -41,13 +41,9 @@ pub fn listed<K: SheetKind>(
 
 // The length of the chart sheet of so many legs.
 fn sheet_length<K: SheetKind>(legs: usize) -> usize {
-    let places = K::place_count();
-    let leg_line = places.saturating_mul(11).saturating_add(23);
-    let end_line = places.saturating_mul(16).saturating_add(17);
-    leg_line
+    leg_length::<K>()
         .saturating_mul(legs)
-        .saturating_add(end_line)
-        .saturating_add(HEAD_LENGTH)
+        .saturating_add(HEAD_LENGTH + end_length::<K>())
 }
 
 // The sheet of a table, in a buffer that it has to fill; nothing where it is refused.
