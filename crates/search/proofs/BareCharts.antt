@@ -1,26 +1,16 @@
 -- The search on a bare chart, in the words of its contract. Assumes nothing.
-use Rattle.std.proofs.Common.{◌≡◌, ℕ, Bool, true, false, cond, ◌&&◌, ltb, List, Some, None, Option, sym, refl, ap, ◌∙◌, subst}
+use Rattle.std.proofs.Common.{◌≡◌, ℕ, Bool, false, List, Some, None, Option, refl, subst}
 use Rattle.rows.specs.Rows.{Row, zero_row}
 use Rattle.rows.specs.Kinds.{Kind}
 use Rattle.rows.specs.Orders.{by_dollars}
 use Rattle.rows.proofs.Order.{clash}
 use Rattle.rows.proofs.Lawful.{by_dollars_laws}
-use Rattle.charts.specs.Meaning.{Meaning, Figures, Shown, blank, leg, shown_at, Within}
+use Rattle.charts.specs.Meaning.{Meaning, Within}
 use Rattle.rounds.specs.Walks.{ClosedWalk}
 use Rattle.rounds.specs.Rates.{Best}
-use Rattle.rounds.specs.Bare.{less_one, bare_leg, bare_entry, bare}
-use Rattle.rounds.proofs.Bare.{bare_at, bare_within, bare_closed_on, bare_cheaper, less_one_dollars}
+use Rattle.rounds.specs.Bare.{less_one, bare}
+use Rattle.rounds.proofs.Bare.{bare_within, bare_closed_on, bare_cheaper, less_one_dollars}
 use Rattle.search.specs.Bare.{IdleIf, BareFound, SomeRound}
-
--- what is read
-pub bare_read : (idle : Bool) (m : Meaning) (n : ℕ) (s r : Shown) → s ≡ shown_at m n → r ≡ bare_entry idle less_one s → r ≡ shown_at (bare idle less_one m) n
-bare_read idle m n s r p q = q ∙ ap (bare_entry idle less_one) p ∙ sym (bare_at idle less_one m n)
-
-pub bare_skip : (idle : Bool) (f : Figures) (r : Bool) → r ≡ (idle && ltb 0 f.hours) → r ≡ true → blank ≡ bare_entry idle less_one (leg f)
-bare_skip idle f r e t = sym (ap (λ (b : Bool). cond b blank (leg (bare_leg less_one f))) (sym e ∙ t))
-
-pub bare_keep : (idle : Bool) (f : Figures) (r : Bool) → r ≡ (idle && ltb 0 f.hours) → r ≡ false → leg (bare_leg less_one f) ≡ bare_entry idle less_one (leg f)
-bare_keep idle f r e t = sym (ap (λ (b : Bool). cond b blank (leg (bare_leg less_one f))) (sym e ∙ t))
 
 module _ (k : Kind) (m : Meaning) (W : Within k m) (idle : Bool) where
   pub bare_limits : Within by_dollars (bare idle less_one m)

@@ -15,7 +15,7 @@ use Rattle.search.specs.declared.round.Held.{Held}
 use Rattle.search.specs.Search.{Holds, Least, Cheaper}
 use Rattle.search.specs.Improve.{Improvement, Improving}
 
-module _ {K : Type 0} (k : Kind) (laws : Laws k) (row : K → Row) (m : Meaning) (W : Within k m) (busy : NoIdleRound m) where
+module _ {K : Type 0} {k : Kind} (laws : Laws k) {row : K → Row} {m : Meaning} (W : Within k m) (busy : NoIdleRound m) where
   some_hours : (buffer : List ℕ) (h : Held K) → Holds row m buffer h → 0 < h.rate.hours
   some_hours buffer h S = omega (arith, S.totals.hours, busy (take h.legs buffer) S.round)
 
@@ -30,7 +30,7 @@ module _ {K : Type 0} (k : Kind) (laws : Laws k) (row : K → Row) (m : Meaning)
       subst₂ (λ x y. cheaper_count k m x y < cheaper_count k m (row was.rate.cost) was.rate.hours) (sym N.totals.cost) (sym N.totals.hours) f
 
   -- old is the buffer with the round that was given, buffer the one with the round whose rate is at hand
-  module _ (was : Held K) (old buffer : List ℕ) (S : Holds row m old was) (rate : Rate K) where
+  module _ {was : Held K} {old : List ℕ} (S : Holds row m old was) (buffer : List ℕ) {rate : Rate K} where
     -- that round
     held : (found : Option (Held K)) → Improving k row m was old rate buffer found → (h : Held K) × Holds row m buffer h × (rate ≡ h.rate)
     held (Some h) I = (h, I.holds, I.rate_is)

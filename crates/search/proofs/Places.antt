@@ -19,17 +19,6 @@ pub row_other : {K : Type 0} (row : K → Row) (xs : List K) (i v : ℕ) (x : K)
 unfolding row_at
 row_other row xs i v x h = ap (λ (l : List Row). get_or l v zero_row) (map-set row xs i x) ∙ get_or-set_other (map row xs) i v (row x) zero_row h
 
-some_element : {K : Type 0} (xs : List K) (i : ℕ) → i < length xs → K
-some_element [] i h = absurd (omega arith)
-some_element (x ∷ xs) i h = x
-
--- the same value at two places of two lists
-pub row_moved : {K : Type 0} (row : K → Row) (xs ys : List K) (i j : ℕ) → i < length xs → j < length ys → ((d : K) → get_or xs i d ≡ get_or ys j d) → row_at row xs i ≡ row_at row ys j
-unfolding row_at
-row_moved row xs ys i j h l e =
-    let d = some_element xs i h in
-    get_or-map row xs i d zero_row h ∙ ap row (e d) ∙ sym (get_or-map row ys j d zero_row l)
-
 -- each call of the closure gives x and leaves it as it was
 pub row_filled : {K F : Type 0} (row : K → Row) (R : F → K → F → Type 0) (f last : F) (x : K) → ((y : K) (q : F) → R f y q → (y ≡ x) × (q ≡ f)) → (xs : List K) → FoldsTo R f xs last
     → (i : ℕ) → i < length xs → row_at row xs i ≡ row x

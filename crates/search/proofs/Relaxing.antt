@@ -17,14 +17,14 @@ use Rattle.search.specs.Layer.{row_at, weights, Ready, Relaxing}
 use Rattle.search.specs.Offer.{offered}
 use Rattle.search.proofs.Places.{row_read, row_set, row_other}
 
-module _ {K : Type 0} (k : Kind) (laws : Laws k) (row : K → Row) (m : Meaning) (rate : Rate K) (R : Ready k row m rate) where
+module _ {K : Type 0} {k : Kind} (laws : Laws k) {row : K → Row} {m : Meaning} {rate : Rate K} (R : Ready k row m rate) where
   abbrev w : ℕ → Row
   w = weights row m rate
 
-  pub leg_allowed : (n : ℕ) (f : Figures) → leg f ≡ shown_at m n → Allowed k m.ports f
-  leg_allowed n f e = R.within.legs_allowed n f (sym e)
+  pub leg_allowed : (n : ℕ) {f : Figures} → leg f ≡ shown_at m n → Allowed k m.ports f
+  leg_allowed n {f} e = R.within.legs_allowed n f (sym e)
 
-  module _ (costs next : List K) (preds : List ℕ) (n : ℕ) (improved : Bool) (T : Relaxing k row m rate costs next preds n improved) where
+  module _ {costs next : List K} {preds : List ℕ} {n : ℕ} {improved : Bool} (T : Relaxing k row m rate costs next preds n improved) where
     next_size : (v : ℕ) → v < m.ports → k.size (row_at row next v) ≤ 256 * most_leg_weight
     next_size v b = go (T.relaxed.made v b)
       where
@@ -52,7 +52,7 @@ module _ {K : Type 0} (k : Kind) (laws : Laws k) (row : K → Row) (m : Meaning)
       leg_is = ap shown_figures (sym shown)
 
       ok : Allowed k m.ports f
-      ok = leg_allowed n f shown
+      ok = leg_allowed n shown
 
       to_next : f.to < length next
       to_next = omega (arith, ok.to_port, T.next_layer)

@@ -27,7 +27,7 @@ use Rattle.search.specs.Search.{Climbed, SomeLowered, Least, Cheaper}
 use Rattle.search.proofs.WalkingBack.{in_table, layers_led, layers_way}
 use Rattle.search.proofs.Parts.{put_below, put_in}
 
-module _ {K : Type 0} (k : Kind) (laws : Laws k) (row : K → Row) (m : Meaning) (rate : Rate K) (R : Ready k row m rate) where
+module _ {K : Type 0} {k : Kind} (laws : Laws k) {row : K → Row} {m : Meaning} {rate : Rate K} (R : Ready k row m rate) where
   abbrev w : ℕ → Row
   w = weights row m rate
 
@@ -35,9 +35,9 @@ module _ {K : Type 0} (k : Kind) (laws : Laws k) (row : K → Row) (m : Meaning)
   J = legs_join_ports k m R.within
 
   -- zero at every port
-  pub ground : (table : List ℕ) (costs next : List K) → length costs ≡ m.ports → next ≡ costs → length table ≡ m.ports * m.ports
+  pub ground : {table : List ℕ} (costs next : List K) → length costs ≡ m.ports → next ≡ costs → length table ≡ m.ports * m.ports
       → ((i : ℕ) → i < length costs → row_at row costs i ≡ zero_row) → Climbed k row m rate table costs next 0
-  ground table costs next l same e z = record {
+  ground costs next l same e z = record {
     layers = record { row = λ i v. zero_row; start = λ v. refl; steps = λ i h. absurd (omega arith) };
     reached = λ v b. sym (z v (omega arith));
     copied = λ v b. ap (λ (l : List K). row_at row l v) same;
@@ -47,7 +47,7 @@ module _ {K : Type 0} (k : Kind) (laws : Laws k) (row : K → Row) (m : Meaning)
     few = omega arith;
   }
 
-  module _ (table : List ℕ) (costs next : List K) (top : ℕ) (S : Climbed k row m rate table costs next top) where
+  module _ {table : List ℕ} {costs next : List K} {top : ℕ} (S : Climbed k row m rate table costs next top) where
     here : Layer k m w top (row_at row costs)
     here = layer_like k laws m J w top (S.layers.row top) (row_at row costs) S.reached (layer_of k laws m J w (pred_at m.ports table) top S.layers top (omega arith))
 
@@ -64,15 +64,15 @@ module _ {K : Type 0} (k : Kind) (laws : Laws k) (row : K → Row) (m : Meaning)
     }
 
     -- the table leads back through the layers, as rows of so many places
-    pub tabled : (ports : ℕ) → ports ≡ m.ports → Led k m ports table top
-    tabled ports e = subst (λ p. Led k m p table top) (sym e) (layers_led k laws m R.within w table top S.layers S.few (omega (arith, S.rows)))
+    pub tabled : {ports : ℕ} → ports ≡ m.ports → Led k m ports table top
+    tabled e = subst (λ p. Led k m p table top) (sym e) (layers_led k laws m R.within w table top S.layers S.few (omega (arith, S.rows)))
 
-    pub way_back : (ports : ℕ) → ports ≡ m.ports → (x : ℕ) → LoweredIn m (pred_at m.ports table) top x → OnTheWay m ports table top x top
-    way_back ports e x low = subst (λ p. OnTheWay m p table top x top) (sym e) (layers_way k laws m R.within w table top S.layers x low)
+    pub way_back : {ports : ℕ} → ports ≡ m.ports → {x : ℕ} → LoweredIn m (pred_at m.ports table) top x → OnTheWay m ports table top x top
+    way_back e {x} low = subst (λ p. OnTheWay m p table top x top) (sym e) (layers_way k laws m R.within w table top S.layers x low)
 
     -- a first repeat, turned, is a cheaper round
-    pub cheaper_found : (ports : ℕ) → ports ≡ m.ports → (buffer : List ℕ) (h : Held K) → Written row m ports table top buffer h → Cheaper k row m rate buffer h
-    cheaper_found ports e buffer h written =
+    pub cheaper_found : {ports : ℕ} → ports ≡ m.ports → {buffer : List ℕ} {h : Held K} → Written row m ports table top buffer h → Cheaper k row m rate buffer h
+    cheaper_found e {buffer} {h} written =
         let F = subst (λ p. Written row m p table top buffer h) e written in
         let r = F.found.repeat in
         let ns = take h.legs buffer in
@@ -87,7 +87,7 @@ module _ {K : Type 0} (k : Kind) (laws : Laws k) (row : K → Row) (m : Meaning)
         }
 
     -- after trying every leg
-    module _ (made : List K) (row_new : List ℕ) where
+    module _ {made : List K} {row_new : List ℕ} where
       -- nothing became lower
       pub least : Relaxing k row m rate costs made row_new (length m.entries) false → Least k row m rate costs
       least T =

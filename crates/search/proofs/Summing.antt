@@ -1,14 +1,14 @@
 -- The legs of a repeat, one after another. Assumes nothing.
-use Rattle.std.proofs.Common.{◌≡◌, ℕ, suc, ◌+◌, ◌-◌, ◌*◌, ◌<◌, ◌≤◌, true, List, ◌∷◌, length, drop, set, IsSome, MatchOption, Option, Some, None, sym, refl, ap, ◌∙◌, subst, mul-le-mul_right, add-one, arith, length-set}
+use Rattle.std.proofs.Common.{◌≡◌, ℕ, suc, ◌+◌, ◌-◌, ◌*◌, ◌<◌, ◌≤◌, true, List, ◌∷◌, length, drop, set, MatchOption, Option, Some, sym, refl, ap, ◌∙◌, subst, mul-le-mul_right, add-one, arith, length-set}
 use Rattle.std.proofs.lemmas.List.{drop-set, drop_all}
-use Rattle.limits.specs.Numbers.{most_ports, most_hours, most_cost, most_legs, exact_size}
+use Rattle.limits.specs.Numbers.{most_ports, most_hours, most_cost, exact_size}
 use Rattle.rows.specs.Rows.{Row, zero_row, sum}
 use Rattle.rows.specs.Kinds.{Kind, Laws}
 use Rattle.charts.specs.Meaning.{Meaning, Figures, Allowed}
 use Rattle.rounds.specs.Legs.{there, figures_at, leaves}
 use Rattle.rounds.specs.Rates.{cost_of, hours_of}
 use Rattle.rounds.specs.WalksBack.{port_back, legs_back}
-use Rattle.rounds.proofs.Legs.{listed, allowed}
+use Rattle.rounds.proofs.Legs.{allowed}
 use Rattle.rounds.proofs.Sizes.{walk_cost, walk_hours}
 use Rattle.rounds.proofs.WalksBack.{back_zero, back_suc, legs_zero, legs_suc, length_back}
 use Rattle.search.specs.declared.back.Repeat.{Repeat}
@@ -17,20 +17,16 @@ use Rattle.search.specs.Back.{Repeats}
 use Rattle.search.specs.Round.{Traced, Summing, Copying}
 use Rattle.search.proofs.WalkingBack.{traced}
 
--- a predecessor that is not 0 is a leg
-pub leg_some : (o : Option ℕ) (n : ℕ) → MatchOption o (n ≡ 0) (λ leg. n ≡ leg + 1) → 0 < n → IsSome o
-leg_some None n e h = absurd (omega arith)
-leg_some (Some leg) n e h = refl
-
+-- the leg that a predecessor is
 pub leg_read : (o : Option ℕ) (n leg : ℕ) → MatchOption o (n ≡ 0) (λ leg. n ≡ leg + 1) → o ≡ Some leg → n ≡ leg + 1
 leg_read o n leg h e = subst (λ (q : Option ℕ). MatchOption q (n ≡ 0) (λ leg. n ≡ leg + 1)) e h
 
-module _ (k : Kind) (laws : Laws k) (m : Meaning) (width : ℕ) (table : List ℕ) (top : ℕ) (L : Led k m width table top) (r : Repeat) (R : Repeats m width table top r) where
+module _ {k : Kind} (laws : Laws k) {m : Meaning} {width : ℕ} {table : List ℕ} {top : ℕ} (L : Led k m width table top) {r : Repeat} (R : Repeats m width table top r) where
   abbrev by : ℕ → ℕ → ℕ
   by = pred_at width table
 
   G : Traced k m width table r
-  G = traced k m width table top L r R
+  G = traced L R
 
   -- sums of so many legs are small
   module _ (a : ℕ) (h : a ≤ r.legs) where
@@ -51,17 +47,6 @@ module _ (k : Kind) (laws : Laws k) (m : Meaning) (width : ℕ) (table : List �
 
   -- the port come to after a legs, in the layer below which r.layer stands a + 1 layers, and what the table has there
   module _ (a p layer : ℕ) (h : layer + 1 + a ≡ r.layer) (few : a < r.legs) (p_is : p ≡ port_back m by a r.layer r.port) where
-    pub layer_below : layer < top
-    layer_below = omega (arith, R.deep)
-
-    pub p_port : p < m.ports
-    p_port = subst (λ u. u < m.ports) (sym p_is) (R.way a few).0
-
-    pub p_made : 0 < by layer p
-    p_made =
-        let e : r.layer - suc a ≡ layer = omega arith in
-        subst (λ n. 0 < n) (λ i. by (e i) (sym p_is i)) (R.way a few).1
-
     module _ (n : ℕ) (row : by layer p ≡ n + 1) where
       n_row : n ≡ by (r.layer - suc a) (port_back m by a r.layer r.port) - 1
       n_row =
@@ -71,9 +56,6 @@ module _ (k : Kind) (laws : Laws k) (m : Meaning) (width : ℕ) (table : List �
 
       n_there : there m n ≡ true
       n_there = subst (λ u. there m u ≡ true) (sym n_row) (G.is_there a few)
-
-      pub n_below : n < most_legs
-      n_below = omega (arith, listed m n n_there, L.within.few_entries)
 
       n_legs : n ∷ legs_back m by a r.layer r.port ≡ legs_back m by (a + 1) r.layer r.port
       n_legs =

@@ -22,12 +22,12 @@ in_table i top p v len h b l =
     let x : suc i * p ≤ top * p = mul-le-mul_right p h in
     omega (arith, suc-mul i p)
 
-module _ (k : Kind) (m : Meaning) (width : ℕ) (table : List ℕ) (top : ℕ) (L : Led k m width table top) where
+module _ {k : Kind} {m : Meaning} {width : ℕ} {table : List ℕ} {top : ℕ} (L : Led k m width table top) where
   abbrev by : ℕ → ℕ → ℕ
   by = pred_at width table
 
   -- a walk back from port x
-  module _ (x : ℕ) where
+  module _ {x : ℕ} where
     pub walk_starts : (seen : List ℕ) (c : ℕ) → c ≡ 0 → x < m.ports → length seen ≡ m.ports → ((u : ℕ) → u < m.ports → get_or seen u 0 ≡ 0) → Walking m width table top x seen c x
     walk_starts seen c none b l z =
         subst (λ n. Walking m width table top x seen n x) (sym none) (record {
@@ -40,15 +40,8 @@ module _ (k : Kind) (m : Meaning) (width : ℕ) (table : List ℕ) (top : ℕ) (
           port = b;
         })
 
-    module _ (seen : List ℕ) (c at left : ℕ) (h : left + 1 + c ≡ top) (S : Walking m width table top x seen c at) where
-      -- a port on the way has no predecessor
-      pub walk_stops : by left at ≡ 0 → OnTheWay m width table top x top → top < m.ports
-      walk_stops z w =
-          let e : top - suc c ≡ left = omega arith in
-          let o : 0 < by left at = subst (λ n. 0 < n) (λ i. by (e i) (sym S.is i)) (w c (omega arith)).1 in
-          absurd (omega arith)
-
-      -- or it has one, leg n
+    module _ {seen : List ℕ} {c at : ℕ} (left : ℕ) (h : left + 1 + c ≡ top) (S : Walking m width table top x seen c at) where
+      -- leg n leads on
       module _ (n : ℕ) (row : by left at ≡ n + 1) where
         way_on : OnTheWay m width table top x (suc c)
         way_on a b = go (cases_eq a c)
@@ -108,9 +101,6 @@ module _ (k : Kind) (m : Meaning) (width : ℕ) (table : List ℕ) (top : ℕ) (
             met_is : met ≡ top - again.0
             met_is = was ∙ ap (λ u. get_or (set seen at (left + 1)) u 0) (sym again.2) ∙ marks again.0 again.1
 
-            pub met_later : left < met
-            met_later = omega (arith, met_is, again.1)
-
             module _ (r : Repeat) (legs : r.legs ≡ met - left) (place : (r.layer ≡ met) × (r.port ≡ y)) where
               -- the repeat begins a legs back
               begins : ℕ
@@ -164,8 +154,8 @@ module _ (k : Kind) (m : Meaning) (width : ℕ) (table : List ℕ) (top : ℕ) (
                   }
 
     -- no port came again, so there are more ports than layers
-    pub never_again : (seen : List ℕ) (c at : ℕ) → c ≡ top → Walking m width table top x seen c at → top < m.ports
-    never_again seen c at all W = few_values (λ a. port_back m by a top x) m.ports (suc top) (λ a h. port a h (cases_eq a top)) (λ a b h i e. go a b h e (cases_eq b top) i)
+    pub never_again : {seen : List ℕ} {c at : ℕ} → c ≡ top → Walking m width table top x seen c at → top < m.ports
+    never_again {seen} {c} {at} all W = few_values (λ a. port_back m by a top x) m.ports (suc top) (λ a h. port a h (cases_eq a top)) (λ a b h i e. go a b h e (cases_eq b top) i)
       where
         S : Walking m width table top x seen top at
         S = subst (λ n. Walking m width table top x seen n at) all W
@@ -181,7 +171,7 @@ module _ (k : Kind) (m : Meaning) (width : ℕ) (table : List ℕ) (top : ℕ) (
         go a b h e (inr f) i = omega (arith, S.marked a (omega arith), S.marked b (omega arith), ap (λ u. get_or seen u 0) e)
 
   -- the legs of a repeat stand in the table, and are there
-  module _ (r : Repeat) (R : Repeats m width table top r) where
+  module _ {r : Repeat} (R : Repeats m width table top r) where
     row_below : (a : ℕ) → a < r.legs → r.layer - suc a < top
     row_below a h = omega (arith, R.first.deep, R.deep)
 

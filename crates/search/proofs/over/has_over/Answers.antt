@@ -5,29 +5,23 @@ use Rattle.std.proofs.lemmas.Bool.{cases_lt}
 use Rattle.std.proofs.lemmas.Iterator.{cases_from_any, YieldsList-from_range}
 use Rattle.std.proofs.lemmas.List.FromFn.{length-range_with_len, get_or-range_with_len}
 use Rattle.rows.proofs.Order.{clash}
-use Rattle.charts.specs.Meaning.{Meaning, Shown, blank, leg, over, shown_at}
+use Rattle.charts.specs.Meaning.{Meaning, blank, over, shown_at}
 use Rattle.search.specs.Over.{is_over, SomeOver}
 use Rattle.search.proofs.over.has_over.Goals as goal
 
-shown_over : (s : Shown) → is_over s ≡ true → s ≡ over
-shown_over blank e = cc
-shown_over (leg f) e = cc
-shown_over over e = cc
-
-told : (m : Meaning) (r : Bool) → (let ns = range_with_len 0 (length m.entries) in
+none_over : (m : Meaning) (r : Bool) → (let ns = range_with_len 0 (length m.entries) in
     MatchBool r ((n : ℕ) × (n < length ns) × HoldsAt (λ n. is_over (shown_at m n) ≡ true) ns n) (AllWithin (λ n. is_over (shown_at m n) ≡ false) ns 0 (length ns)))
-    → (r ≡ true → SomeOver m) × (r ≡ false → SomeOver m → ⊥)
-told m true h = (λ e. (_, shown_over _ (h.2 0)), λ e. clash refl e)
-told m false h = (λ e. clash e refl, λ e o. not_at o.0 o.1 (cases_lt o.0 (length m.entries)))
+    → r ≡ false → SomeOver m → ⊥
+none_over m true h e o = clash refl e
+none_over m false h e o = at o.0 o.1 (cases_lt o.0 (length m.entries))
   where
-    not_at : (n : ℕ) → shown_at m n ≡ over → (n < length m.entries) ⊎ (length m.entries ≤ n) → ⊥
-    not_at n o (inl b) =
+    at : (n : ℕ) → shown_at m n ≡ over → (n < length m.entries) ⊎ (length m.entries ≤ n) → ⊥
+    at n o (inl b) =
         let same : get_or (range_with_len 0 (length m.entries)) n 0 ≡ n = get_or-range_with_len 0 (length m.entries) n 0 b ∙ omega arith in
         clash (ap is_over o) (ap (λ i. is_over (shown_at m i)) (sym same) ∙ h n 0 (omega arith) (omega (arith, length-range_with_len 0 (length m.entries))))
-    not_at n o (inr b) = clash (ap is_over o) (ap is_over (get_or-eq_default m.entries blank b))
+    at n o (inr b) = clash (ap is_over o) (ap is_over (get_or-eq_default m.entries blank b))
 
-pub returns : goal.returns
-returns g c =
+pub returns-clause-none : goal.returns-clause-none
+returns-clause-none g c =
     let m = g.C.Chart.meaning c.args.chart.now in
-    let t = told m _ (cases_from_any _ _ _ (λ n. is_over (shown_at m n) ≡ true) (λ n. is_over (shown_at m n) ≡ false) c.any.ensures.ran (YieldsList-from_range 0 (length m.entries) (length m.entries) (cc) (omega arith)) (λ x q k. search (rules, tests)) (λ x q k. search (rules, tests))) in
-    record { some = t.0; none = t.1 }
+    none_over m _ (cases_from_any _ _ _ (λ n. is_over (shown_at m n) ≡ true) (λ n. is_over (shown_at m n) ≡ false) c.any.ensures.ran (YieldsList-from_range 0 (length m.entries) (length m.entries) (cc) (omega arith)) (λ x q k. search (rules, tests)) (λ x q k. search (rules, tests)))

@@ -8,7 +8,7 @@ pub loop-layer-init : goal.loop-layer-init
 loop-layer-init g c =
     let k = g.C.Cost.CostKind in
     record {
-      climbed = ground k.kind k.lawful k.row (g.C.Chart.meaning c.args.chart.now) c.args.rate c.requires.ready c.args.table.now c.zero_costs.new.costs _
+      climbed = ground k.lawful c.requires.ready c.zero_costs.new.costs _
           (c.zero_costs.auto.costs ∙ c.requires.parts.one_layer) c.copy_from_slice.ensures.after c.requires.parts.rows (λ i h. c.zero_costs.ensures i (omega (arith, c.zero_costs.auto.costs)));
       more = omega (arith, c.requires.ready.within.some_port);
       round = refl;
@@ -17,12 +17,12 @@ loop-layer-init g c =
 pub invariant_of-preds : goal.invariant_of-preds
 invariant_of-preds g c =
     let k = g.C.Cost.CostKind in
-    record { led = tabled k.kind k.lawful k.row (g.C.Chart.meaning c.args.chart.now) c.args.rate c.requires.ready _ _ _ (c.loop-layer.layer + 1) (c.climb.ensures.next c.if-not-climb.false) _ c.requires.parts.one_layer }
+    record { led = tabled k.lawful c.requires.ready (c.climb.ensures.next c.if-not-climb.false) c.requires.parts.one_layer }
 
 pub returns-in-Some : goal.returns-in-Some
 returns-in-Some g c =
     let k = g.C.Cost.CostKind in
-    cheaper_found k.kind k.lawful k.row (g.C.Chart.meaning c.args.chart.now) c.args.rate c.requires.ready _ _ _ (c.loop-layer.layer + 1) (c.climb.ensures.next c.if-not-climb.false) _ c.requires.parts.one_layer _ _ c.in-Some.ensures
+    cheaper_found k.lawful c.requires.ready (c.climb.ensures.next c.if-not-climb.false) c.requires.parts.one_layer c.in-Some.ensures
 
 pub loop-layer-preserved : goal.loop-layer-preserved
 loop-layer-preserved g c = record {
@@ -31,7 +31,7 @@ loop-layer-preserved g c = record {
     | then-is_looked_at+in_default w ↦
         let k = g.C.Cost.CostKind in
         let low = c.climb.ensures.lowered c.if-not-climb.false in
-        let way = way_back k.kind k.lawful k.row (g.C.Chart.meaning c.args.chart.now) c.args.rate c.requires.ready _ _ _ (c.loop-layer.layer + 1) (c.climb.ensures.next c.if-not-climb.false) _ c.requires.parts.one_layer low.0 low.1 in
+        let way = way_back k.lawful c.requires.ready (c.climb.ensures.next c.if-not-climb.false) c.requires.parts.one_layer low.1 in
         w.in_default.ensures.1 low.0 low.1.0 way
     | else-is_looked_at w ↦
         let not : c.loop-layer.layer + 1 ≡ length c.args.costs.now → ⊥ = λ e. clash (c.is_looked_at.ensures e) w.if-is_looked_at.false in

@@ -1,5 +1,5 @@
 use Rattle.std.proofs.Common.{◌-◌, arith}
-use Rattle.search.proofs.Summing.{leg_read, copies, copy_starts, copied_all}
+use Rattle.search.proofs.Summing.{leg_read, copies, copy_starts}
 use Rattle.search.proofs.predecessors.Predecessors.copy_back.Goals as goal
 
 pub loop-layer-init : goal.loop-layer-init
@@ -7,7 +7,7 @@ loop-layer-init g c =
     let s = c.args.self.now in
     record {
       copying =
-          copy_starts g.C.Cost.CostKind.kind g.C.Cost.CostKind.lawful (g.C.Chart.meaning s.chart.now) s.width s.numbers.now s.layers s.led c.args.repeat c.requires.repeat c.args.out.now _ (omega arith) c.requires.places;
+          copy_starts g.C.Cost.CostKind.lawful s.led c.requires.repeat c.args.out.now _ (omega arith) c.requires.places;
       left = omega (arith);
     }
 
@@ -16,12 +16,7 @@ loop-layer-preserved g c =
     let s = c.args.self.now in
     record {
       copying =
-          copies g.C.Cost.CostKind.kind g.C.Cost.CostKind.lawful (g.C.Chart.meaning s.chart.now) s.width s.numbers.now s.layers s.led c.args.repeat c.requires.repeat (c.args.repeat.layer - c.loop-layer.layer) c.loop-layer.at (c.loop-layer.layer - 1) (omega (arith, c.loop-layer-test.true, c.loop-layer.auto.layer)) (omega (arith, c.loop-layer-test.true, c.loop-layer.auto.layer, c.requires.repeat.first.deep)) c.loop-layer.invariant.copying.at_is _ (leg_read _ _ _ c.leg.ensures c.unwrap-n.ensures) c.loop-layer.out _
+          copies g.C.Cost.CostKind.lawful s.led c.requires.repeat (c.args.repeat.layer - c.loop-layer.layer) c.loop-layer.at (c.loop-layer.layer - 1) (omega (arith, c.loop-layer-test.true, c.loop-layer.auto.layer)) (omega (arith, c.loop-layer-test.true, c.loop-layer.auto.layer, c.requires.repeat.first.deep)) c.loop-layer.invariant.copying.at_is _ (leg_read _ _ _ c.leg.ensures c.unwrap-n.ensures) c.loop-layer.out _
           _ _ (omega (arith, c.loop-layer-test.true, c.loop-layer.auto.layer)) (omega (arith, c.loop-layer-test.true, c.loop-layer.auto.layer, c.requires.repeat.first.deep)) c.left_port-at.ensures c.loop-layer.invariant.copying;
       left = omega (arith, c.loop-layer-test.true);
     }
-
-pub returns : goal.returns
-returns g c =
-    let s = c.args.self.now in
-    copied_all g.C.Cost.CostKind.kind g.C.Cost.CostKind.lawful (g.C.Chart.meaning s.chart.now) s.width s.numbers.now s.layers s.led c.args.repeat c.requires.repeat c.loop-layer.out _ c.loop-layer.at (omega (arith, c.loop-layer-test.false, c.loop-layer.invariant.left, c.requires.repeat.first.deep)) c.loop-layer.invariant.copying

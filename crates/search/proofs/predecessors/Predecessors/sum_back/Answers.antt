@@ -1,6 +1,5 @@
-use Rattle.std.proofs.Common.{◌≡◌, ◌-◌, subst, arith}
+use Rattle.std.proofs.Common.{◌-◌, arith}
 use Rattle.charts.specs.Reading.{figures_of}
-use Rattle.search.specs.Round.{Summing}
 use Rattle.search.proofs.Summing.{leg_read, hours_fit, sums, sum_starts}
 use Rattle.search.proofs.predecessors.Predecessors.sum_back.Goals as goal
 
@@ -9,14 +8,14 @@ loop-layer-init g c =
     let s = c.args.self.now in
     record {
       summing =
-          sum_starts g.C.Cost.CostKind.kind g.C.Cost.CostKind.lawful (g.C.Chart.meaning s.chart.now) s.width s.numbers.now s.layers s.led c.args.repeat c.requires g.C.Cost.CostKind.row _ _ (omega arith) c.zero-cost.ensures;
+          sum_starts g.C.Cost.CostKind.lawful s.led c.requires g.C.Cost.CostKind.row _ _ (omega arith) c.zero-cost.ensures;
       left = omega (arith);
     }
 
 pub overflow_add-hours : goal.overflow_add-hours
 overflow_add-hours g c =
     let s = c.args.self.now in
-    let h = hours_fit g.C.Cost.CostKind.kind g.C.Cost.CostKind.lawful (g.C.Chart.meaning s.chart.now) s.width s.numbers.now s.layers s.led c.args.repeat c.requires (c.args.repeat.layer - c.loop-layer.layer) c.loop-layer.at (c.loop-layer.layer - 1) (omega (arith, c.loop-layer-test.true, c.loop-layer.auto.layer)) (omega (arith, c.loop-layer-test.true, c.loop-layer.auto.layer, c.requires.first.deep)) c.loop-layer.invariant.summing.at_is _ (leg_read _ _ _ c.leg.ensures c.unwrap.ensures) (figures_of g.C.Cost.CostKind.row c.leg_at-leg.result) c.leg_at-leg.ensures g.C.Cost.CostKind.row _ _ c.loop-layer.invariant.summing in
+    let h = hours_fit g.C.Cost.CostKind.lawful s.led c.requires (c.args.repeat.layer - c.loop-layer.layer) c.loop-layer.at (c.loop-layer.layer - 1) (omega (arith, c.loop-layer-test.true, c.loop-layer.auto.layer)) (omega (arith, c.loop-layer-test.true, c.loop-layer.auto.layer, c.requires.first.deep)) c.loop-layer.invariant.summing.at_is _ (leg_read _ _ _ c.leg.ensures c.unwrap.ensures) (figures_of g.C.Cost.CostKind.row c.leg_at-leg.result) c.leg_at-leg.ensures g.C.Cost.CostKind.row _ _ c.loop-layer.invariant.summing in
     record { fits = omega arith }
 
 pub loop-layer-preserved : goal.loop-layer-preserved
@@ -24,14 +23,7 @@ loop-layer-preserved g c =
     let s = c.args.self.now in
     record {
       summing =
-          sums g.C.Cost.CostKind.kind g.C.Cost.CostKind.lawful (g.C.Chart.meaning s.chart.now) s.width s.numbers.now s.layers s.led c.args.repeat c.requires (c.args.repeat.layer - c.loop-layer.layer) c.loop-layer.at (c.loop-layer.layer - 1) (omega (arith, c.loop-layer-test.true, c.loop-layer.auto.layer)) (omega (arith, c.loop-layer-test.true, c.loop-layer.auto.layer, c.requires.first.deep)) c.loop-layer.invariant.summing.at_is _ (leg_read _ _ _ c.leg.ensures c.unwrap.ensures) (figures_of g.C.Cost.CostKind.row c.leg_at-leg.result) c.leg_at-leg.ensures g.C.Cost.CostKind.row _ _ c.loop-layer.hours
+          sums g.C.Cost.CostKind.lawful s.led c.requires (c.args.repeat.layer - c.loop-layer.layer) c.loop-layer.at (c.loop-layer.layer - 1) (omega (arith, c.loop-layer-test.true, c.loop-layer.auto.layer)) (omega (arith, c.loop-layer-test.true, c.loop-layer.auto.layer, c.requires.first.deep)) c.loop-layer.invariant.summing.at_is _ (leg_read _ _ _ c.leg.ensures c.unwrap.ensures) (figures_of g.C.Cost.CostKind.row c.leg_at-leg.result) c.leg_at-leg.ensures g.C.Cost.CostKind.row _ _ c.loop-layer.hours
           _ (omega (arith, c.loop-layer-test.true, c.loop-layer.auto.layer)) c.loop-layer.invariant.summing c.plus-cost.ensures;
       left = omega (arith, c.loop-layer-test.true);
     }
-
-pub returns : goal.returns
-returns g c =
-    let s = c.args.self.now in
-    let r = c.args.repeat in
-    let all : r.layer - c.loop-layer.layer ≡ r.legs = (omega (arith, c.loop-layer-test.false, c.loop-layer.invariant.left, c.requires.first.deep)) in
-    (subst (λ n. Summing g.C.Cost.CostKind.row (g.C.Chart.meaning s.chart.now) s.width s.numbers.now r n c.loop-layer.cost c.loop-layer.hours c.loop-layer.at) all c.loop-layer.invariant.summing).totals
