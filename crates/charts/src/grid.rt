@@ -86,6 +86,7 @@ impl<'a> Chart for GridChart<'a> {
 
     fn entry(&self, n: usize) -> Entry<Money> {
         let hours = hours_under(self.hours, n);
+        // 0 is no code for none here: a grid is numbers of hours, of which 0 is a blank.
         if hours == 0 {
             return Entry::Blank;
         }

@@ -11,6 +11,7 @@ use crate::kind::CostKind;
 use crate::whole::{multiple_of, negative_of, sum_of};
 use std::fmt;
 
+// A type of its own beside `Money`, and no list of one place or two: each place is told by its name and unit.
 #[derive(Clone, Copy, PartialEq, Eq, PartialOrd, Ord, Debug)]
 pub struct MoneyTonnes {
     pub dollars: i64,

@@ -30,6 +30,7 @@ fn is_preferred<C: Chart>(chart: &C, leg: Leg<C::Cost>, pick: Option<usize>) -> 
     }
 }
 
+// That the chart keeps its limits is asked for, since of a chart only its `ports` promises that.
 fn pick_entry<C: Chart>(chart: &C, n: usize, picks: &mut [u32])
     requires within { Within C.Cost.CostKind.kind (C.Chart.meaning chart.now) }
     requires number { n < length (C.Chart.meaning chart.now).entries }

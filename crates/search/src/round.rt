@@ -10,7 +10,8 @@ use charts::Chart;
 use costs::{CostKind, Rate};
 use pricing::leg_at;
 
-// A round in front of a buffer of leg numbers: how many legs it has, and its rate.
+// A round in front of a buffer of leg numbers: how many legs it has, and its rate. The buffer is lent, so that the count
+// stands here and not in it.
 #[derive(Clone, Copy)]
 pub struct Held<K> {
     pub legs: usize,

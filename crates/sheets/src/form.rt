@@ -34,7 +34,7 @@ const LINE_BYTES: usize = 2;
 pub const HEAD_LENGTH: usize = LINE_BYTES + 2 * NUMBER_WIDTH;
 
 impl Form {
-    // The letter of the first line.
+    // The letter of the first line; a conversion into a byte would not say that it is the letter.
     pub fn letter(self) -> u8
         ensures { result ≡ form_letter self }
     {
