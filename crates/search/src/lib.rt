@@ -14,6 +14,7 @@ pub mod over;
 pub mod predecessors;
 pub mod round;
 pub mod search;
+pub mod weights;
 
 pub use area::clear_area;
 pub use bare::{any_round, has_idle_round};

@@ -2,12 +2,12 @@
 ghost use Rattle.std.specs.Prelude.{◌≡◌, ℕ, ◌+◌, ◌<◌, true, false, length};
 ghost use Rattle.rows.specs.Rows.{zero_row};
 ghost use Rattle.rounds.specs.Sizes.{SmallRate};
-ghost use Rattle.search.specs.Layer.{row_at, Ready};
+ghost use Rattle.search.specs.Layer.{row_at};
 ghost use Rattle.search.specs.Search.{Area, Parts, Climbed, SomeLowered, Least, Searched};
 
-use crate::layer::relax_layer;
 use crate::predecessors::Predecessors;
 use crate::round::Held;
+use crate::weights::Weights;
 use charts::Chart;
 use costs::{CostKind, Rate};
 
@@ -19,31 +19,6 @@ pub fn zero_costs<K: CostKind>(costs: &mut [K])
     costs.fill_with(|| zero);
 }
 
-// One layer more, its predecessors in the row of that number; and whether it made some port lower.
-fn climb<C: Chart>(
-    chart: &C,
-    rate: Rate<C::Cost>,
-    layer: usize,
-    costs: &mut [C::Cost],
-    next: &mut [C::Cost],
-    table: &mut [u32],
-) -> bool
-    requires ready { Ready C.Cost.CostKind.kind C.Cost.CostKind.row (C.Chart.meaning chart.now) rate }
-    requires climbed { Climbed C.Cost.CostKind.kind C.Cost.CostKind.row (C.Chart.meaning chart.now) rate table.old costs.old next.old layer }
-    requires more { layer < (C.Chart.meaning chart.now).ports }
-    ensures next { result ≡ true → Climbed C.Cost.CostKind.kind C.Cost.CostKind.row (C.Chart.meaning chart.now) rate table.new costs.new next.new (layer + 1) }
-    ensures lowered { result ≡ true → SomeLowered (C.Chart.meaning chart.now) table.new (layer + 1) }
-    ensures least { result ≡ false → Least C.Cost.CostKind.kind C.Cost.CostKind.row (C.Chart.meaning chart.now) rate costs.new }
-{
-    let ports = costs.len();
-    let row = &mut table[layer * ports..(layer + 1) * ports];
-    let improved = relax_layer(chart, rate, costs, next, row);
-    if improved {
-        costs.copy_from_slice(next);
-    }
-    improved
-}
-
 // Whether a layer is looked at. The last one has to be, and doubling keeps the looks few.
 fn is_looked_at(layer: usize, ports: usize) -> bool
     ensures { layer ≡ ports → result ≡ true }
@@ -51,41 +26,64 @@ fn is_looked_at(layer: usize, ports: usize) -> bool
     layer == ports || layer.is_power_of_two()
 }
 
-// The parts are passed one by one: behind a struct of them each contract would have to say of each part that it is still
-// the caller's.
-fn search_layers<C: Chart>(
-    chart: &C,
-    rate: Rate<C::Cost>,
-    costs: &mut [C::Cost],
-    next: &mut [C::Cost],
-    seen: &mut [u32],
-    table: &mut [u32],
-    round: &mut [u16],
-) -> Option<Held<C::Cost>>
-    requires ready { Ready C.Cost.CostKind.kind C.Cost.CostKind.row (C.Chart.meaning chart.now) rate }
-    requires parts { Parts (C.Chart.meaning chart.now).ports costs.old next.old seen.old table.old round.old }
-    ensures { Searched C.Cost.CostKind.kind C.Cost.CostKind.row (C.Chart.meaning chart.now) rate costs.new round.old round.new result }
-{
-    let ports = costs.len();
-    zero_costs(costs);
-    next.copy_from_slice(costs);
-    for layer in 0..ports {
-        if !climb(chart, rate, layer, costs, next, table) {
-            return None;
+impl<'a, C: Chart> Weights<'a, C> {
+    // One layer more, its predecessors in the row of that number; and whether it made some port lower.
+    fn climb(
+        &self,
+        layer: usize,
+        costs: &mut [C::Cost],
+        next: &mut [C::Cost],
+        table: &mut [u32],
+    ) -> bool
+        requires climbed { Climbed C.Cost.CostKind.kind C.Cost.CostKind.row (C.Chart.meaning self.now.chart.now) self.now.rate table.old costs.old next.old layer }
+        requires more { layer < (C.Chart.meaning self.now.chart.now).ports }
+        ensures next { result ≡ true → Climbed C.Cost.CostKind.kind C.Cost.CostKind.row (C.Chart.meaning self.now.chart.now) self.now.rate table.new costs.new next.new (layer + 1) }
+        ensures lowered { result ≡ true → SomeLowered (C.Chart.meaning self.now.chart.now) table.new (layer + 1) }
+        ensures least { result ≡ false → Least C.Cost.CostKind.kind C.Cost.CostKind.row (C.Chart.meaning self.now.chart.now) self.now.rate costs.new }
+    {
+        let ports = costs.len();
+        let row = &mut table[layer * ports..(layer + 1) * ports];
+        let improved = self.relax_layer(costs, next, row);
+        if improved {
+            costs.copy_from_slice(next);
         }
-        if is_looked_at(layer + 1, ports) {
-            let preds = Predecessors {
-                chart,
-                numbers: table,
-                width: ports,
-                layers: layer + 1,
-            };
-            if let Some(held) = preds.cheapest_round(seen, round) {
-                return Some(held);
+        improved
+    }
+
+    // The parts are passed one by one: behind a struct of them each contract would have to say of each part that it is
+    // still the caller's.
+    fn search_layers(
+        &self,
+        costs: &mut [C::Cost],
+        next: &mut [C::Cost],
+        seen: &mut [u32],
+        table: &mut [u32],
+        round: &mut [u16],
+    ) -> Option<Held<C::Cost>>
+        requires { Parts (C.Chart.meaning self.now.chart.now).ports costs.old next.old seen.old table.old round.old }
+        ensures { Searched C.Cost.CostKind.kind C.Cost.CostKind.row (C.Chart.meaning self.now.chart.now) self.now.rate costs.new round.old round.new result }
+    {
+        let ports = costs.len();
+        zero_costs(costs);
+        next.copy_from_slice(costs);
+        for layer in 0..ports {
+            if !self.climb(layer, costs, next, table) {
+                return None;
+            }
+            if is_looked_at(layer + 1, ports) {
+                let preds = Predecessors {
+                    chart: self.chart,
+                    numbers: table,
+                    width: ports,
+                    layers: layer + 1,
+                };
+                if let Some(held) = preds.cheapest_round(seen, round) {
+                    return Some(held);
+                }
             }
         }
+        None
     }
-    None
 }
 
 // A cheaper round in front of the buffer; or there is none, and the costs front holds the marks. The lent area is cut
@@ -104,5 +102,5 @@ pub fn find_cheaper<C: Chart>(
     let ports = chart.ports();
     let (reached, next) = costs.split_at_mut(ports);
     let (seen, table) = numbers.split_at_mut(ports);
-    search_layers(chart, rate, reached, next, seen, table, round)
+    Weights { chart, rate }.search_layers(reached, next, seen, table, round)
 }
