@@ -1,6 +1,6 @@
 use Rattle.rounds.specs.Measure.{cheaper_count}
 use Rattle.search.specs.Improve.{Improving}
-use Rattle.search.proofs.improve.improve.Given as goal
+use Rattle.search.proofs.improve.least_round.Given as goal
 
 abbrev pub invariant-loop-held : goal.invariant-loop-held
 invariant-loop-held g l = let k = g.C.Cost.CostKind in Improving k.kind k.row (g.C.Chart.meaning l.chart) l.fn.start l.initial.round l.rate l.round l.found
