@@ -1,5 +1,5 @@
 -- The legs of a repeat, one after another. Assumes nothing.
-use Rattle.std.proofs.Common.{◌≡◌, ℕ, suc, ◌+◌, ◌-◌, ◌*◌, ◌<◌, ◌≤◌, true, List, ◌∷◌, length, drop, set, MatchOption, Option, Some, sym, refl, ap, ◌∙◌, subst, mul-le-mul_right, add-one, arith, length-set}
+use Rattle.std.proofs.Common.{◌≡◌, ℕ, suc, ◌+◌, ◌-◌, ◌*◌, ◌<◌, ◌≤◌, true, List, ◌∷◌, length, drop, set, sym, refl, ap, ◌∙◌, subst, mul-le-mul_right, add-one, arith, length-set}
 use Rattle.std.proofs.lemmas.List.{drop-set, drop_all}
 use Rattle.limits.specs.Numbers.{most_ports, most_hours, most_cost, exact_size}
 use Rattle.rows.specs.Rows.{Row, zero_row, sum}
@@ -12,46 +12,52 @@ use Rattle.rounds.proofs.Legs.{allowed}
 use Rattle.rounds.proofs.Sizes.{walk_cost, walk_hours}
 use Rattle.rounds.proofs.WalksBack.{back_zero, back_suc, legs_zero, legs_suc, length_back}
 use Rattle.search.specs.declared.back.Repeat.{Repeat}
-use Rattle.search.specs.Predecessors.{pred_at, Led}
-use Rattle.search.specs.Back.{Repeats}
+use Rattle.search.specs.Predecessors.{pred_at}
 use Rattle.search.specs.Round.{Traced, Summing, Copying}
-use Rattle.search.proofs.WalkingBack.{traced}
 
--- the leg that a predecessor is
-pub leg_read : (o : Option ℕ) (n leg : ℕ) → MatchOption o (n ≡ 0) (λ leg. n ≡ leg + 1) → o ≡ Some leg → n ≡ leg + 1
-leg_read o n leg h e = subst (λ (q : Option ℕ). MatchOption q (n ≡ 0) (λ leg. n ≡ leg + 1)) e h
-
-module _ {k : Kind} (laws : Laws k) {m : Meaning} {width : ℕ} {table : List ℕ} {top : ℕ} (L : Led k m width table top) {r : Repeat} (R : Repeats m width table top r) where
+module _ {k : Kind} (laws : Laws k) {m : Meaning} {width : ℕ} {table : List ℕ} {r : Repeat} (G : Traced k m width table r) where
   abbrev by : ℕ → ℕ → ℕ
   by = pred_at width table
-
-  G : Traced k m width table r
-  G = traced L R
 
   -- sums of so many legs are small
   module _ (a : ℕ) (h : a ≤ r.legs) where
     early : a ≤ most_ports
-    early = omega (arith, G.few, L.within.few_ports)
+    early = omega (arith, G.few, G.within.few_ports)
 
     pub cost_small : k.size (cost_of m (legs_back m by a r.layer r.port)) ≤ most_ports * most_cost
     cost_small =
         let x : a * most_cost ≤ most_ports * most_cost = mul-le-mul_right most_cost early in
-        let b = walk_cost k laws m L.within (legs_back m by a r.layer r.port) _ r.port (G.leads a h) in
+        let b = walk_cost k laws m G.within (legs_back m by a r.layer r.port) _ r.port (G.leads a h) in
         omega (arith, b, ap (λ n. n * most_cost) (length_back m by a r.layer r.port))
 
     pub hours_few : hours_of m (legs_back m by a r.layer r.port) ≤ most_ports * most_hours
     hours_few =
         let x : a * most_hours ≤ most_ports * most_hours = mul-le-mul_right most_hours early in
-        let b = walk_hours k laws m L.within (legs_back m by a r.layer r.port) _ r.port (G.leads a h) in
+        let b = walk_hours k laws m G.within (legs_back m by a r.layer r.port) _ r.port (G.leads a h) in
         omega (arith, b, ap (λ n. n * most_hours) (length_back m by a r.layer r.port))
 
   -- the port come to after a legs, in the layer below which r.layer stands a + 1 layers, and what the table has there
   module _ (a p layer : ℕ) (h : layer + 1 + a ≡ r.layer) (few : a < r.legs) (p_is : p ≡ port_back m by a r.layer r.port) where
+    its_row : layer ≡ r.layer - suc a
+    its_row = omega arith
+
+    pub p_within : layer * width + p < length table
+    p_within = subst (λ n. n < length table) (λ i. sym its_row i * width + sym p_is i) (G.stands a few)
+
+    made : 0 < by layer p
+    made = subst (λ n. 0 < n) (λ i. by (sym its_row i) (sym p_is i)) (G.made a few)
+
+    -- a number that is read there is one more than a leg's
+    pub some_leg : (q : ℕ) → q ≡ by layer p → 0 < q
+    some_leg q e = omega (arith, made)
+
+    pub row_of_leg : (q : ℕ) → q ≡ by layer p → by layer p ≡ (q - 1) + 1
+    row_of_leg q e = omega (arith, made)
+
     module _ (n : ℕ) (row : by layer p ≡ n + 1) where
       n_row : n ≡ by (r.layer - suc a) (port_back m by a r.layer r.port) - 1
       n_row =
-          let e : layer ≡ r.layer - suc a = omega arith in
-          let s : by (r.layer - suc a) (port_back m by a r.layer r.port) ≡ n + 1 = (λ i. by (sym e i) (sym p_is i)) ∙ row in
+          let s : by (r.layer - suc a) (port_back m by a r.layer r.port) ≡ n + 1 = (λ i. by (sym its_row i) (sym p_is i)) ∙ row in
           omega arith
 
       n_there : there m n ≡ true
@@ -71,7 +77,7 @@ module _ {k : Kind} (laws : Laws k) {m : Meaning} {width : ℕ} {table : List �
 
       module _ (f : Figures) (f_is : f ≡ figures_at m n) where
         pub leg_allowed : Allowed k m.ports f
-        leg_allowed = subst (Allowed k m.ports) (sym f_is) (allowed k m L.within n n_there)
+        leg_allowed = subst (Allowed k m.ports) (sym f_is) (allowed k m G.within n n_there)
 
         pub hours_fit : {K : Type 0} (row : K → Row) (cost : K) (hours : ℕ) → Summing row m width table r a cost hours p → hours + f.hours ≤ 257 * most_hours
         hours_fit row cost hours S = omega (arith, S.totals.hours, hours_few a (omega arith), leg_allowed.few_hours)

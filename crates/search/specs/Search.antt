@@ -15,8 +15,15 @@ use Rattle.search.specs.Layer.{row_at, weights, Copied}
 use Rattle.search.specs.Area.{number_places}
 use Rattle.search.specs.Predecessors.{pred_at}
 
--- the part of the work area that a search uses: two layers of costs, the numbers, and a buffer for a round
-pub record Area {K : Type 0} (ports : ℕ) (costs : List K) (numbers round : List ℕ) : Type 0 where
+-- the part of the work area that a search uses: two layers of costs, a row for the ports seen, the table of predecessors, and a buffer for a round
+pub record Area {K : Type 0} (ports : ℕ) (costs : List K) (seen table round : List ℕ) : Type 0 where
+  pub two_layers : length costs ≡ ports + ports
+  pub one_row : length seen ≡ ports
+  pub rows : length table ≡ ports * ports
+  pub places : ports ≤ length round
+
+-- the same with the numbers whole
+pub record WholeArea {K : Type 0} (ports : ℕ) (costs : List K) (numbers round : List ℕ) : Type 0 where
   pub two_layers : length costs ≡ ports + ports
   pub rows : length numbers ≡ number_places ports
   pub places : ports ≤ length round

@@ -5,7 +5,7 @@ ghost use Rattle.rounds.specs.Bare.{bare as bare_meaning};
 ghost use Rattle.search.specs.Area.{number_places, RestStays};
 ghost use Rattle.search.specs.Bare.{BareFound, SomeRound, TellsIdle};
 
-use crate::search::find_cheaper;
+use crate::search::find_cheaper_in;
 use charts::{Chart, Entry, Leg};
 use costs::{CostKind, Money, Rate};
 
@@ -64,7 +64,7 @@ fn find_bare<C: Chart>(
         hours: 1,
     };
     let mut costs = [Money { dollars: 0 }; 512];
-    let held = find_cheaper(
+    let held = find_cheaper_in(
         &bare,
         nothing,
         &mut costs[0..2 * ports],

@@ -39,7 +39,7 @@ fn pick_entry<C: Chart>(chart: &C, n: usize, picks: &mut [u32])
 {
     if let Entry::Leg(leg) = chart.entry(n) {
         let to = leg.to as usize;
-        if is_preferred(chart, leg, leg_of(picks[to])) {
+        if is_preferred(chart, leg, leg_of(picks[to] as usize)) {
             picks[to] = predecessor(n);
         }
     }
@@ -74,6 +74,8 @@ fn cheapest_cycle<C: Chart>(picks: &Predecessors<'_, C>, seen: &mut [u32]) -> Op
     ensures { KnownIf C.Cost.CostKind.row (C.Chart.meaning picks.now.chart.now) picks.now.width picks.now.numbers.now picks.now.layers result }
 {
     let ports = picks.chart.ports();
+    // a port without a pick leaves these as they are
+    seen.fill(0);
     let mut done = [false; MOST_PORTS];
     let mut best: Option<Found<C::Cost>> = None;
     for port in 0..ports {

@@ -6,7 +6,7 @@ ghost use Rattle.search.specs.Area.{cost_places, number_places, Lent, RestStays}
 ghost use Rattle.search.specs.Improve.{Improvement};
 
 use crate::round::Held;
-use crate::search::find_cheaper;
+use crate::search::find_cheaper_in;
 use charts::Chart;
 use costs::CostKind;
 
@@ -31,7 +31,7 @@ pub fn least_round<C: Chart>(
     let used = &mut numbers[0..(ports + 1) * ports];
     let mut found = None;
     let mut rate = start.rate;
-    while let Some(held) = find_cheaper(chart, rate, layers, used, round) {
+    while let Some(held) = find_cheaper_in(chart, rate, layers, used, round) {
         rate = held.rate;
         found = Some(held);
     }

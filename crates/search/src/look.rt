@@ -6,7 +6,7 @@ ghost use Rattle.search.specs.Look.{Known, FoundFrom, LookedFrom, Written, Looke
 
 use crate::back::Repeat;
 use crate::predecessors::Predecessors;
-use crate::round::Held;
+use crate::round::{Held, sum_back, write_round};
 use charts::Chart;
 use costs::{CostKind, Rate};
 
@@ -49,7 +49,7 @@ impl<'a, C: Chart> Predecessors<'a, C> {
             return None;
         };
         let repeat = self.walk_back(port, seen)?;
-        let rate = self.sum_back(repeat);
+        let rate = sum_back(self.chart, self.width, self.numbers, repeat);
         Some(Found { repeat, rate })
     }
 
@@ -76,7 +76,13 @@ impl<'a, C: Chart> Predecessors<'a, C> {
         ensures { Written C.Cost.CostKind.row (C.Chart.meaning self.now.chart.now) self.now.width self.now.numbers.now self.now.layers round.new result }
     {
         let legs = found.repeat.legs;
-        self.write_round(found.repeat, &mut round[0..legs]);
+        write_round(
+            self.chart,
+            self.width,
+            self.numbers,
+            found.repeat,
+            &mut round[0..legs],
+        );
         Held {
             legs,
             rate: found.rate,

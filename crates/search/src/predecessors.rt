@@ -1,5 +1,5 @@
 // The legs by which ports were reached, layer by layer.
-ghost use Rattle.std.specs.Prelude.{◌≡◌, ◌+◌, ◌<◌, MatchOption};
+ghost use Rattle.std.specs.Prelude.{◌≡◌, ◌+◌, ◌*◌, ◌<◌, length, MatchOption};
 ghost use Rattle.limits.specs.Numbers.{most_legs};
 ghost use Rattle.search.specs.Predecessors.{pred_at, Led};
 
@@ -26,10 +26,18 @@ pub fn predecessor(n: usize) -> u32
 }
 
 // The number of the leg that a predecessor is.
-pub fn leg_of(predecessor: u32) -> Option<usize>
+pub fn leg_of(predecessor: usize) -> Option<usize>
     ensures { MatchOption result (predecessor ≡ 0) (λ leg. predecessor ≡ leg + 1) }
 {
-    (predecessor as usize).checked_sub(1)
+    predecessor.checked_sub(1)
+}
+
+// What row i of a table whose rows stand so many places apart has at a port.
+pub fn number_at(table: &[u32], width: usize, i: usize, port: usize) -> usize
+    requires { i * width + port < length table.now }
+    ensures { result ≡ pred_at width table.now i port }
+{
+    table[i * width + port] as usize
 }
 
 impl<'a, C: Chart> Predecessors<'a, C> {
@@ -39,6 +47,6 @@ impl<'a, C: Chart> Predecessors<'a, C> {
         requires port { port < (C.Chart.meaning self.now.chart.now).ports }
         ensures { let n = pred_at self.now.width self.now.numbers.now layer port in MatchOption result (n ≡ 0) (λ leg. n ≡ leg + 1) }
     {
-        leg_of(self.numbers[layer * self.width + port])
+        leg_of(number_at(self.numbers, self.width, layer, port))
     }
 }

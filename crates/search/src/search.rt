@@ -3,7 +3,7 @@ ghost use Rattle.std.specs.Prelude.{◌≡◌, ℕ, ◌+◌, ◌<◌, true, fals
 ghost use Rattle.rows.specs.Rows.{zero_row};
 ghost use Rattle.rounds.specs.Sizes.{SmallRate};
 ghost use Rattle.search.specs.Layer.{row_at};
-ghost use Rattle.search.specs.Search.{Area, Parts, Climbed, SomeLowered, Least, Searched};
+ghost use Rattle.search.specs.Search.{Area, WholeArea, Parts, Climbed, SomeLowered, Least, Searched};
 
 use crate::predecessors::Predecessors;
 use crate::round::Held;
@@ -86,9 +86,27 @@ impl<'a, C: Chart> Weights<'a, C> {
     }
 }
 
-// A cheaper round in front of the buffer; or there is none, and the costs front holds the marks. The lent area is cut
-// into two layers of costs, a row for the ports seen, and the table of predecessors.
+// A cheaper round in front of the buffer; or there is none, and the costs front holds the marks. The costs are cut into
+// two layers.
 pub fn find_cheaper<C: Chart>(
+    chart: &C,
+    rate: Rate<C::Cost>,
+    costs: &mut [C::Cost],
+    seen: &mut [u32],
+    table: &mut [u32],
+    round: &mut [u16],
+) -> Option<Held<C::Cost>>
+    requires rate { SmallRate C.Cost.CostKind.kind (C.Cost.CostKind.row rate.cost) rate.hours }
+    requires area { Area (C.Chart.meaning chart.now).ports costs.old seen.old table.old round.old }
+    ensures { Searched C.Cost.CostKind.kind C.Cost.CostKind.row (C.Chart.meaning chart.now) rate costs.new round.old round.new result }
+{
+    let ports = chart.ports();
+    let (reached, next) = costs.split_at_mut(ports);
+    Weights { chart, rate }.search_layers(reached, next, seen, table, round)
+}
+
+// The same with the lent numbers whole. They are cut into a row for the ports seen and the table of predecessors.
+pub(crate) fn find_cheaper_in<C: Chart>(
     chart: &C,
     rate: Rate<C::Cost>,
     costs: &mut [C::Cost],
@@ -96,11 +114,10 @@ pub fn find_cheaper<C: Chart>(
     round: &mut [u16],
 ) -> Option<Held<C::Cost>>
     requires rate { SmallRate C.Cost.CostKind.kind (C.Cost.CostKind.row rate.cost) rate.hours }
-    requires area { Area (C.Chart.meaning chart.now).ports costs.old numbers.old round.old }
+    requires area { WholeArea (C.Chart.meaning chart.now).ports costs.old numbers.old round.old }
     ensures { Searched C.Cost.CostKind.kind C.Cost.CostKind.row (C.Chart.meaning chart.now) rate costs.new round.old round.new result }
 {
     let ports = chart.ports();
-    let (reached, next) = costs.split_at_mut(ports);
     let (seen, table) = numbers.split_at_mut(ports);
-    Weights { chart, rate }.search_layers(reached, next, seen, table, round)
+    find_cheaper(chart, rate, costs, seen, table, round)
 }

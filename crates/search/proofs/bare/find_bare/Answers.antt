@@ -9,7 +9,7 @@ use Rattle.search.proofs.bare.find_bare.Goals as goal
 pub returns-in_err-held-clause-found : goal.returns-in_err-held-clause-found
 returns-in_err-held-clause-found g c =
     let m = g.C.Chart.meaning c.args.chart.now in
-    subst (BareFound m c.args.idle c.find_cheaper.new.round) (sym c.from_residual.ensures) (bare_none g.C.Cost.CostKind.kind m c.ports-ports.ensures.within c.args.idle _ one_zero c.in_err-held.ensures.1.best)
+    subst (BareFound m c.args.idle c.find_cheaper_in.new.round) (sym c.from_residual.ensures) (bare_none g.C.Cost.CostKind.kind m c.ports-ports.ensures.within c.args.idle _ one_zero c.in_err-held.ensures.1.best)
 
 pub returns-clause-found : goal.returns-clause-found
 returns-clause-found g c =

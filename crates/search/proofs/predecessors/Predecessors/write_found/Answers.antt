@@ -3,7 +3,11 @@ use borrow.Rule.Slice.PartMut.{post_of}
 use Rattle.std.proofs.lemmas.List.{take_at, length-take}
 use Rattle.rounds.specs.Lists.{Turned}
 use Rattle.search.specs.Back.{legs_of}
+use Rattle.search.proofs.WalkingBack.{traced}
 use Rattle.search.proofs.predecessors.Predecessors.write_found.Goals as goal
+
+pub write_round-requires-clause-repeat : goal.write_round-requires-clause-repeat
+write_round-requires-clause-repeat g c = traced c.args.self.now.led c.requires.known.repeats
 
 pub returns : goal.returns
 returns g c =
