@@ -121,8 +121,3 @@ module _ {k : Kind} (laws : Laws k) {m : Meaning} {width : ℕ} {table : List �
     done = drop_all (r.legs - 0) out (omega arith) ∙ sym (legs_zero m by r.layer r.port);
     at_is = sym (back_zero m by r.layer r.port);
   })
-
-  pub copied_all : (out : List ℕ) (a p : ℕ) → a ≡ r.legs → Copying m width table r a out p → out ≡ legs_back m by r.legs r.layer r.port
-  copied_all out a p e S =
-      let z : r.legs - a ≡ 0 = omega arith in
-      sym (ap (λ u. drop u out) z) ∙ S.done ∙ ap (λ u. legs_back m by u r.layer r.port) e
