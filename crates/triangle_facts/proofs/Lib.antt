@@ -3,3 +3,4 @@ pub mod Settled
 pub mod NoRound
 pub mod Figures
 pub mod Written
+pub mod Told

@@ -1,2 +1,3 @@
 pub mod Triangle
 pub mod Figures
+pub mod Listing
