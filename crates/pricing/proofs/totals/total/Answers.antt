@@ -1,7 +1,6 @@
-use Rattle.std.proofs.Common.{ℕ, List, ap, subst, ◌∙◌, take_all}
+use Rattle.std.proofs.Common.{ap, ◌∙◌}
 use Rattle.charts.specs.Meaning.{Figures}
 use Rattle.rounds.specs.Legs.{figures_at}
-use Rattle.pricing.specs.Totals.{Totals}
 use Rattle.pricing.proofs.Summing.{summed_more}
 use Rattle.pricing.proofs.totals.total.Goals as goal
 
@@ -13,7 +12,3 @@ loop-number-preserved g c = λ few.
     summed_more k.kind k.lawful m c.ports-ports.ensures.within k.row c.args.numbers.now c.loop-number.number-index
     c.leg_at.result.hours c.loop-number.sum.cost c.leg_at.result.cost c.with_leg-sum.result.cost c.loop-number.sum.hours c.with_leg-sum.result.hours
     c.loop-number-test.true few (c.loop-number.invariant few) (ap (λ (f : Figures). f.cost) read) (ap (λ (f : Figures). f.hours) read) c.with_leg-sum.ensures.cost c.with_leg-sum.ensures.hours
-
-pub returns : goal.returns
-returns g c = λ few. let k = g.C.Cost.CostKind in
-    subst (λ (ns : List ℕ). Totals k.row (g.C.Chart.meaning c.args.chart.now) ns c.loop-number.sum.cost c.loop-number.sum.hours) (take_all c.loop-number.number-index c.args.numbers.now c.loop-number-test.false) (c.loop-number.invariant few).totals
