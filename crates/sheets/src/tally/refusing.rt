@@ -52,7 +52,10 @@ impl Tally {
     {
         self.check_number(MOST_LEGS, line.number)?;
         check_leg(self.ports, line.leg)?;
-        check_room(self.end + leg_line_length::<K>() + end_line_length::<K>(), len)
+        check_room(
+            self.end + leg_line_length::<K>() + end_line_length::<K>(),
+            len,
+        )
     }
 
     // Whether the end line fits a buffer of so many bytes.
