@@ -1,6 +1,6 @@
 // Every simple cycle of a chart of at most three ports and four legs, looked at one by one.
 use charts::Leg;
-use costs::{CostKind, Money, Rate};
+use costs::{Money, Rate};
 
 // What the simple cycles of a chart tell.
 #[derive(Clone, Copy, Default)]
@@ -9,18 +9,19 @@ pub struct Cycles {
     pub cheapest: Option<Rate<Money>>,
 }
 
+// The sums are the trial's own, and not by `plus`, which is part of what it tries.
 fn rate_of(legs: &[Leg<Money>]) -> Rate<Money> {
-    let nothing = Rate {
-        cost: Money::zero(),
-        hours: 0,
-    };
-    legs.iter().fold(
-        nothing,
-        |sum, leg| Rate {
-            cost: sum.cost.plus(leg.cost),
-            hours: sum.hours.saturating_add(u64::from(leg.hours)),
-        },
-    )
+    let (dollars, hours) = legs.iter().fold(
+        (0_i64, 0_u64),
+        |(dollars, hours), leg| (
+            dollars.wrapping_add(leg.cost.dollars),
+            hours.saturating_add(u64::from(leg.hours)),
+        ),
+    );
+    Rate {
+        cost: Money { dollars },
+        hours,
+    }
 }
 
 // Whether the legs close, each reaching the port that the next one leaves, and leave no port twice.

@@ -10,7 +10,7 @@ use charts::{Leg, put};
 use costs::CostKind;
 use sheet_texts::line::LegLine;
 use sheets::SheetKind;
-use sheets::form::leg_length;
+use sheets::form::leg_line_length;
 
 // The numbers of the leg line that a text begins with.
 fn first_leg<K: SheetKind>(text: &[u8]) -> Option<LegLine<K>>
@@ -31,7 +31,7 @@ fn place_leg<'a, K: SheetKind>(text: &'a [u8], table: &mut [Option<Leg<K>>]) -> 
 {
     let line = first_leg::<K>(text).unwrap();
     put(table, line.number as usize, Some(leg_of(line)));
-    &text[leg_length::<K>()..]
+    &text[leg_line_length::<K>()..]
 }
 
 // Puts the legs of so many lines, which the text begins with, under their numbers.

@@ -1,6 +1,5 @@
 // Tables of legs, filled, compared and written as sheets.
 use charts::Leg;
-use sheets::form::{HEAD_LENGTH, end_length, leg_length};
 use sheets::{Form, NumberedLeg, SheetKind, write_sheet};
 use std::alloc::{AllocError, Global};
 
@@ -40,10 +39,15 @@ pub fn listed<K: SheetKind>(
 }
 
 // The length of the chart sheet of so many legs.
+// The figures are the trial's own, and not the lengths of the library that it tries.
 fn sheet_length<K: SheetKind>(legs: usize) -> usize {
-    leg_length::<K>()
+    let places = K::place_count();
+    let leg_line = places.saturating_mul(11).saturating_add(23);
+    let end_line = places.saturating_mul(16).saturating_add(17);
+    leg_line
         .saturating_mul(legs)
-        .saturating_add(HEAD_LENGTH + end_length::<K>())
+        .saturating_add(end_line)
+        .saturating_add(12)
 }
 
 // The sheet of a table, in a buffer that it has to fill; nothing where it is refused.

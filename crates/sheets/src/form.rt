@@ -1,6 +1,6 @@
 // The forms of a sheet, and how long its columns and lines are.
-ghost use Rattle.std.specs.Prelude.{◌≡◌, ◌<◌};
-ghost use Rattle.limits.specs.Numbers.{most_legs};
+ghost use Rattle.std.specs.Prelude.{◌≡◌, ◌<◌, ◌≤◌};
+ghost use Rattle.limits.specs.Numbers.{most_legs, most_places};
 ghost use Rattle.sheets.specs.Form.{number_width, hours_width, cost_width, summed_hours_width, summed_cost_width};
 ghost use Rattle.sheets.specs.Form.{form_letter, head_length, leg_length, end_length};
 ghost use Rattle.sheets.specs.Proper.{least_after};
@@ -56,18 +56,34 @@ impl Form {
     }
 }
 
+// The length of a leg line whose cost has so many places.
+pub fn leg_length(places: usize) -> usize
+    requires { places ≤ most_places }
+    ensures { result ≡ leg_length places }
+{
+    LINE_BYTES + 3 * NUMBER_WIDTH + HOURS_WIDTH + COST_WIDTH * places
+}
+
+// The length of an end line whose summed cost has so many places.
+pub fn end_length(places: usize) -> usize
+    requires { places ≤ most_places }
+    ensures { result ≡ end_length places }
+{
+    LINE_BYTES + NUMBER_WIDTH + SUMMED_HOURS_WIDTH + SUMMED_COST_WIDTH * places
+}
+
 // The length of a leg line of a kind.
-pub fn leg_length<K: CostKind>() -> usize
+pub fn leg_line_length<K: CostKind>() -> usize
     ensures { result ≡ leg_length K.CostKind.kind.places }
 {
-    LINE_BYTES + 3 * NUMBER_WIDTH + HOURS_WIDTH + COST_WIDTH * K::place_count()
+    leg_length(K::place_count())
 }
 
 // The length of an end line of a kind.
-pub fn end_length<K: CostKind>() -> usize
+pub fn end_line_length<K: CostKind>() -> usize
     ensures { result ≡ end_length K.CostKind.kind.places }
 {
-    LINE_BYTES + NUMBER_WIDTH + SUMMED_HOURS_WIDTH + SUMMED_COST_WIDTH * K::place_count()
+    end_length(K::place_count())
 }
 
 // Each width of the code is the width of the same name in the definitions.

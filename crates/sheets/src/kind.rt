@@ -1,17 +1,20 @@
 // The cost kinds that can be put on a sheet.
 ghost use Rattle.std.specs.Prelude.{◌≡◌, ℕ, ◌≤◌, unsigned_abs};
 ghost use Rattle.rows.specs.Rows.{place};
-ghost use Rattle.sheets.specs.Places.{row_of, SamePlaces};
+ghost use Rattle.charts.specs.Reading.{figures_of};
+ghost use Rattle.sheets.specs.Places.{row_of, SamePlaces, largest};
 ghost use Rattle.std.proofs.Common.{rules};
 
 use crate::places::Places;
+use charts::Leg;
 use costs::{CostKind, Money, MoneyTonnes};
 
 // A cost kind that gives its places and is made of them: by methods and not by From, since a value leaves out the places past its own.
 pub trait SheetKind: CostKind {
     // The places as plain numbers; past its last place a value has zeros.
     fn places(self) -> Places
-        ensures { row_of result ≡ Self.CostKind.row self };
+        ensures same { row_of result ≡ Self.CostKind.row self }
+        ensures small { largest (row_of result) ≤ Self.CostKind.kind.size (Self.CostKind.row self) };
 
     // The value of these places, as many of them as the kind has.
     fn made_of(places: Places) -> Self
@@ -48,5 +51,18 @@ impl SheetKind for MoneyTonnes {
     fn made_of(places: Places) -> MoneyTonnes {
         let [dollars, tonnes, ..] = places.numbers;
         MoneyTonnes { dollars, tonnes }
+    }
+}
+
+// A leg with the places of its cost as plain numbers: field by field, since the cost changes its type.
+pub fn plain_leg<K: SheetKind>(leg: Leg<K>) -> Leg<Places>
+    ensures same { figures_of row_of result ≡ figures_of K.CostKind.row leg }
+    ensures small { largest (row_of result.cost) ≤ K.CostKind.kind.size (K.CostKind.row leg.cost) }
+{
+    Leg {
+        from: leg.from,
+        to: leg.to,
+        hours: leg.hours,
+        cost: leg.cost.places(),
     }
 }

@@ -11,7 +11,7 @@ ghost use Rattle.sheets.specs.Lines.{Puts};
 use crate::form::{
     COST_WIDTH, Form, HOURS_WIDTH, NUMBER_WIDTH, SUMMED_COST_WIDTH, SUMMED_HOURS_WIDTH,
 };
-use crate::kind::SheetKind;
+use crate::kind::{SheetKind, plain_leg};
 use crate::numbered::NumberedLeg;
 use crate::places::Places;
 use crate::tally::Tally;
@@ -89,14 +89,15 @@ pub fn put_leg<K: SheetKind>(out: &mut [u8], at: usize, line: NumberedLeg<K>)
     requires fits { (line.number < most_legs) × ((line.leg.hours ≤ most_hours) × (largest (K.CostKind.row line.leg.cost) ≤ most_cost)) }
     ensures { out.new ≡ put out.old at (leg_line K.CostKind.kind.places (numbered_of K.CostKind.row line)) }
 {
-    let NumberedLeg { number, leg } = line;
+    let leg = plain_leg(line.leg);
+    let number = line.number;
     let mut line = LineWriter { out, at };
     line.put_byte(LEG_LETTER);
     line.put_count(number);
     line.put_count(usize::from(leg.from));
     line.put_count(usize::from(leg.to));
     line.put_number(HOURS_WIDTH, u64::from(leg.hours));
-    line.put_places::<K>(COST_WIDTH, leg.cost.places());
+    line.put_places::<K>(COST_WIDTH, leg.cost);
     line.put_byte(LINE_FEED);
 }
 

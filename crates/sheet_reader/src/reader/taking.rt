@@ -20,7 +20,7 @@ use costs::CostKind;
 use limits::MOST_PORTS;
 use limits::refusal::Refusal;
 use sheet_texts::line::{EndLine, LegLine, read_end, read_head};
-use sheets::form::{HEAD_LENGTH, end_length, leg_length};
+use sheets::form::{HEAD_LENGTH, end_line_length, leg_line_length};
 use sheets::{Form, Places, SheetKind, Tally};
 use std::mem;
 
@@ -66,8 +66,8 @@ fn take_leg<K: SheetKind>(
 {
     let line: LegLine<K> = read_line(columns).ok_or(Refusal::Malformed)?;
     check_line(tally, bounds, line)?;
-    tally.count(line.number as usize, line.hours as u32, line.cost);
-    Ok(leg_length::<K>())
+    tally.count_leg(line.number as usize, line.hours as u32, line.cost);
+    Ok(leg_line_length::<K>())
 }
 
 // Whether an end line of these columns has the sums of the lines before it.
@@ -118,7 +118,7 @@ impl Reader {
             (Reader::Legs(tally), 'E') => {
                 check_end::<K>(tally, columns)?;
                 self.end();
-                Ok(end_length::<K>())
+                Ok(end_line_length::<K>())
             }
             _ => Err(Refusal::Malformed),
         }

@@ -32,7 +32,8 @@ impl<K: SheetKind> BegunSheet<K> {
     {
         self.tally.check_line(line, out.len())?;
         put_leg(out, self.tally.end, line);
-        self.tally.count(line.number, line.leg.hours, line.leg.cost);
+        self.tally
+            .count_leg(line.number, line.leg.hours, line.leg.cost);
         Ok(())
     }
 

@@ -5,7 +5,7 @@ ghost use Rattle.sheets.specs.Begun.{tallied, room_refusal, begin_refusal, numbe
 ghost use Rattle.sheets.specs.Writing.{numbered_of};
 
 use super::Tally;
-use crate::form::{HEAD_LENGTH, end_length, leg_length};
+use crate::form::{HEAD_LENGTH, end_line_length, leg_line_length};
 use crate::kind::SheetKind;
 use crate::numbered::NumberedLeg;
 use charts::limited::{check_leg, check_port_count};
@@ -27,7 +27,7 @@ pub(crate) fn check_begin<K: SheetKind>(ports: usize, len: usize) -> Result<(), 
     ensures { result ≡ answer (begin_refusal K.CostKind.kind.places ports len) tt }
 {
     check_port_count(MOST_PORTS, ports)?;
-    check_room(HEAD_LENGTH + end_length::<K>(), len)
+    check_room(HEAD_LENGTH + end_line_length::<K>(), len)
 }
 
 impl Tally {
@@ -52,13 +52,16 @@ impl Tally {
     {
         self.check_number(MOST_LEGS, line.number)?;
         check_leg(self.ports, line.leg)?;
-        check_room(self.end + leg_length::<K>() + end_length::<K>(), len)
+        check_room(
+            self.end + leg_line_length::<K>() + end_line_length::<K>(),
+            len,
+        )
     }
 
     // Whether the end line fits a buffer of so many bytes.
     pub(crate) fn check_close<K: SheetKind>(&self, len: usize) -> Result<(), Refusal>
         ensures { result ≡ answer (close_refusal K.CostKind.kind.places (tallied self.now) len) tt }
     {
-        check_room(self.end + end_length::<K>(), len)
+        check_room(self.end + end_line_length::<K>(), len)
     }
 }

@@ -28,7 +28,7 @@ returns g c =
     let line = c.unwrap-line.result in
     let read = rw c.unwrap-line.ensures at c.first_leg.ensures in
     record {
-      rest = λ l more next. take_rest text c.leg_length.result ∙ ap (λ (n : ℕ). drop n text) c.leg_length.ensures ∙ (first_line next).rest;
+      rest = λ l more next. take_rest text c.leg_line_length.result ∙ ap (λ (n : ℕ). drop n text) c.leg_line_length.ensures ∙ (first_line next).rest;
       table = λ l more next.
           ap (table_figures row) c.put.ensures
           ∙ map-set (place_figures row) table line.number (Some c.leg_of.result)

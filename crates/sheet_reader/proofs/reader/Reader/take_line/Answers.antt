@@ -15,7 +15,7 @@ returns-in_ok-check_end-in-Legs-E g c =
     let tally = c.in-Legs-E.tally in
     let ended : c.«end».new.self ≡ Ended tally = c.«end».ensures tally refl in
     let taken = c.in_ok-check_end-in-Legs-E.ensures m in
-    rw (c.in-Legs-E.is-0, ended, c.end_length.ensures)
+    rw (c.in-Legs-E.is-0, ended, c.end_line_length.ensures)
     (subst (λ (rest : List ℕ). Advances k m (Legs tally) (Ended tally) rest (end_length k.places)) (first_then c.args.text.now 69 (grind arith) c.in-Legs-E.is-1) taken)
 
 pub returns-in_default-2 : goal.returns-in_default-2

@@ -18,8 +18,8 @@ returns-in_err-check_line g c =
     (leg_refused g.K.CostKind.kind (limits_of c.args.bounds) c.args.columns.now c.args.tally.now (line_leg g.K.CostKind.row line) _ (rw c.in_ok-line.ensures.ok_part at c.read_line.ensures)
     (g.K.CostKind.narrow line.cost) (refused_with _ _ _ c.in_err-check_line.ensures))
 
-pub count-requires-clause-fits : goal.count-requires-clause-fits
-count-requires-clause-fits g c =
+pub count_leg-requires-clause-fits : goal.count_leg-requires-clause-fits
+count_leg-requires-clause-fits g c =
     let line = c.in_ok-line.line in
     leg_fits g.K.CostKind.kind c.args.bounds.numbers (tallied c.args.tally.now) (line_leg g.K.CostKind.row line) c.args.bounds.few (g.met.K.SheetKind.bounded line.cost)
     (none_refused _ _ _ c.in_ok-check_line.ensures)
@@ -31,6 +31,6 @@ returns g c =
     let l = line_leg g.K.CostKind.row line in
     let none = none_refused _ _ _ c.in_ok-check_line.ensures in
     let fits = leg_fits k c.args.bounds.numbers (tallied c.args.tally.now) l c.args.bounds.few (g.met.K.SheetKind.bounded line.cost) none in
-    rw c.leg_length.ensures
+    rw c.leg_line_length.ensures
     (leg_line_taken k (limits_of c.args.bounds) c.args.columns.now c.args.tally.now _ l c.args.bounds.few (rw c.in_ok-line.ensures.ok_part at c.read_line.ensures) (g.K.CostKind.narrow line.cost) fits.1.1
-    none c.count.ensures)
+    none c.count_leg.ensures)

@@ -10,8 +10,8 @@ put_leg-requires-clause-fits g c =
     line_fits g.K.CostKind.kind (begun c.args.self.now) (numbered_of g.K.CostKind.row line) (length c.args.out.now)
     c.in_ok-check_line.ensures (g.met.K.SheetKind.bounded line.leg.cost)
 
-pub count-requires-clause-fits : goal.count-requires-clause-fits
-count-requires-clause-fits g c =
+pub count_leg-requires-clause-fits : goal.count_leg-requires-clause-fits
+count_leg-requires-clause-fits g c =
     let line = c.args.line in
     line_fits g.K.CostKind.kind (begun c.args.self.now) (numbered_of g.K.CostKind.row line) (length c.args.out.now)
     c.in_ok-check_line.ensures (g.met.K.SheetKind.bounded line.leg.cost)
@@ -20,4 +20,4 @@ pub returns : goal.returns
 returns g c =
     let line = c.args.line in
     takes g.K.CostKind.kind (begun c.args.self.now) _ (numbered_of g.K.CostKind.row line) c.args.out.now c.put_leg.new.out (g.K.CostKind.narrow line.leg.cost)
-    (g.met.K.SheetKind.bounded line.leg.cost) c.in_ok-check_line.ensures c.count.ensures c.put_leg.ensures
+    (g.met.K.SheetKind.bounded line.leg.cost) c.in_ok-check_line.ensures c.count_leg.ensures c.put_leg.ensures
