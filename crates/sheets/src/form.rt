@@ -56,7 +56,8 @@ impl Form {
     }
 }
 
-// The length of a leg line whose cost has so many places.
+// The length of a leg line whose cost has so many places. Here, below and in `Tally::count` the places are a number and no
+// kind, so that they can be asked of numbers that no kind at hand has.
 pub fn leg_length(places: usize) -> usize
     requires { places ≤ most_places }
     ensures { result ≡ leg_length places }
