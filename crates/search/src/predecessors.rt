@@ -29,7 +29,10 @@ pub fn predecessor(n: usize) -> u32
 pub fn leg_of(predecessor: usize) -> Option<usize>
     ensures { MatchOption result (predecessor ≡ 0) (λ leg. predecessor ≡ leg + 1) }
 {
-    predecessor.checked_sub(1)
+    match predecessor {
+        0 => None,
+        n => Some(n - 1),
+    }
 }
 
 // What row i of a table whose rows stand so many places apart has at a port.
