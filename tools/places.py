@@ -1,6 +1,6 @@
 #!/usr/bin/env python3
 # Lists the places in crates/*/src, and in the proofs, where an older form may stand, point by point; --list shows each line.
-# The lists are candidates: docs/DESIGN-PASS.md says of each what became of it.
+# The lists are candidates; docs/DESIGN-PASS.md has those that are places.
 import collections, glob, re, sys
 
 SHOWN = "--list" in sys.argv
