@@ -39,10 +39,3 @@ module _ (k : Kind) (size legs : ℕ) (text more : List ℕ) (table whole : List
             next = record { placeable = n.placeable.1; count = omega (arith, n.count); lines = rest_is l _ first };
             filled = ap (placed ls) (table_is l _ first) ∙ filled;
           }
-
-  pub all_placed : LegsLeft k size legs text more table whole → legs ≡ 0 → table ≡ whole
-  all_placed h none = go h.left h.next h.filled
-    where
-      go : (ls : List Numbered) → LegsNext k size legs text ls more → placed ls table ≡ whole → table ≡ whole
-      go [] n filled = filled
-      go (l ∷ ls) n filled = absurd (omega (arith, n.count))

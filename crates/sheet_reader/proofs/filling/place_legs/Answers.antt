@@ -1,7 +1,7 @@
 use Rattle.std.proofs.Common.{ℕ, ◌+◌, ◌-◌, List, length, sym, subst, arith}
 use Rattle.sheets.specs.Form.{Numbered}
 use Rattle.sheet_reader.specs.Tables.{table_figures, placed, LegNext}
-use Rattle.sheet_reader.proofs.Placed.{leg_first, leg_placed, all_placed}
+use Rattle.sheet_reader.proofs.Placed.{leg_first, leg_placed}
 use Rattle.sheet_reader.proofs.filling.place_legs.Goals as goal
 
 pub place_leg-rest-requires : goal.place_leg-rest-requires
@@ -31,10 +31,3 @@ loop-line-preserved g c =
           (λ l after next. c.place_leg-rest.ensures.rest l after (subst (λ (size : ℕ). LegNext k size rest l after) (sym same) next))
           (λ l after next. c.place_leg-rest.ensures.table l after (subst (λ (size : ℕ). LegNext k size rest l after) (sym same) next)),
     )
-
-pub returns : goal.returns
-returns g c ls more h =
-    let row = g.K.CostKind.row in
-    let table = c.args.table.now in
-    all_placed g.K.CostKind.kind (length table) (c.args.legs - c.loop-line._line) c.loop-line.rest.now more (table_figures row c.loop-line.table) (placed ls (table_figures row table))
-    (c.loop-line.invariant.1 ls more h) (omega arith)
