@@ -71,12 +71,12 @@ fn cheapest_cycle<C: Chart>(picks: &Predecessors<'_, C>, seen: &mut [u32]) -> Op
     ensures { KnownIf C.Cost.CostKind.row (C.Chart.meaning picks.now.chart.now) picks.now.width picks.now.numbers.now picks.now.layers result }
 {
     let ports = picks.chart.ports();
-    // a port without a pick leaves these as they are
-    seen.fill(0);
     let mut done = [false; MOST_PORTS];
     let mut best: Option<Found<C::Cost>> = None;
     for port in 0..ports {
         if !done[port] {
+            // no walk makes these zero where the port has no pick
+            seen.fill(0);
             if let Some(found) = picks.repeat_from(port, seen) {
                 best = Some(cheaper_of(best, found));
             }
