@@ -1,8 +1,9 @@
 -- The shortest decimal: its last digit, its length, its bytes, and that it is of one number. Assumes nothing.
 use Rattle.std.proofs.Common.{◌≡◌, ℕ, zero, suc, ◌+◌, ◌-◌, ◌*◌, ◌/◌, ◌%◌, ◌^◌, ◌<◌, ◌≤◌, List, [], ◌∷◌, ◌++◌, map, length, get_or, drop, ℤ, pos, negsuc, sym, refl, ap, ◌∙◌, arith}
+use native.Mathlib.Nat.{pow-le-pow_right}
 use Rattle.std.specs.Int.{IsInRange}
 use Rattle.std.specs.Int.Digits.{digits_of}
-use Rattle.std.proofs.lemmas.Int.Digits.{digits_of_step, length-digits_of_step, length-digits_of-le, all_below_base_digits_of, first_digits_of, same_from_digits_of}
+use Rattle.std.proofs.lemmas.Int.Digits.{digits_of_step, length-digits_of_step, length-digits_of-le, all_below_base_digits_of, first_digits_of, number_lt, number_digits_of, same_from_digits_of}
 use Rattle.std.proofs.lemmas.List.{map_push, length-map, length-append, get_or-map}
 use Rattle.std.proofs.ByRecursion.{All-get_or}
 use Rattle.columns.specs.Numerals.{digit_bytes, numeral, signed_numeral}
@@ -44,6 +45,14 @@ pub length_digit_bytes_le : (k n : ℕ) → n < 10 ^ k → length (digit_bytes n
 unfolding digit_bytes
 length_digit_bytes_le k n below =
     omega (arith, length-map (digits_of 10 n) (λ d. 48 + d), length-digits_of-le 10 k n (omega arith) below)
+
+pub digit_bytes_below : (n k : ℕ) → length (digit_bytes n) ≤ k → n < 10 ^ k
+unfolding digit_bytes
+digit_bytes_below n k short =
+    let below = number_lt 10 (digits_of 10 n) (all_below_base_digits_of 10 n (omega arith)) in
+    let short' : length (digits_of 10 n) ≤ k = omega (arith, length-map (digits_of 10 n) (λ d. 48 + d)) in
+    let grows : 10 ^ length (digits_of 10 n) ≤ 10 ^ k = pow-le-pow_right (omega arith) short' in
+    omega (arith, below, number_digits_of 10 n (omega arith))
 
 pub length_numeral_le : (k n : ℕ) → 0 < k → n < 10 ^ k → length (numeral n) ≤ k
 unfolding numeral

@@ -1,8 +1,8 @@
 // Numbers in columns: the shortest decimal at the right, and blanks before it.
 #![tactic(auto)]
 
-ghost use Rattle.std.specs.Prelude.{◌≡◌, ◌+◌, ◌-◌, ◌^◌, ◌<◌, ◌≤◌, ◌++◌, length, ℤ, MatchOption, ◌≢◌, unsigned_abs};
-ghost use Rattle.columns.specs.Numerals.{sign, numeral, signed_numeral};
+ghost use Rattle.std.specs.Prelude.{◌≡◌, ℕ, ◌+◌, ◌-◌, ◌^◌, ◌<◌, ◌≤◌, ◌++◌, length, ℤ, MatchOption, ◌≢◌, slice_index, unsigned_abs};
+ghost use Rattle.columns.specs.Numerals.{zero_byte, sign, numeral, signed_numeral};
 ghost use Rattle.columns.specs.Columns.{widest, padded, column, Shows, Reads, NumeralAt, past_blanks};
 ghost use Rattle.columns.specs.Put.{put};
 ghost use Rattle.columns.specs.Theorems.{OneNumber, ExactWidth, PutIsShown};
@@ -16,8 +16,6 @@ const BLANK: u8 = b' ';
 const MINUS: u8 = b'-';
 
 const ZERO: u8 = b'0';
-
-const PLUS: u8 = b'+';
 
 // A column is read at most this wide, so that its number fits 64 bits with a sign.
 pub const WIDEST: usize = 18;
@@ -75,15 +73,30 @@ fn past_blanks(column: &[u8]) -> &[u8]
     rest
 }
 
-// The whole number that these bytes are the shortest decimal of. `parse` takes other forms too: a plus, zeros before other
-// digits, and a minus before a zero.
+// The number above 0 that these digits are the shortest decimal of. By its own loop: `parse`, which takes other forms too and
+// wants a text, takes several times as long.
+fn read_size(digits: &[u8]) -> Option<u64>
+    requires narrow { length digits.now ≤ widest }
+    requires leads { slice_index digits.now 0 ≢ zero_byte }
+    ensures { MatchOption result ((n : ℕ) → 0 < n → digits.now ≢ numeral n) (λ n. (0 < n) × (n < 10 ^ widest) × (digits.now ≡ numeral n)) }
+{
+    let mut n = 0;
+    for digit in digits {
+        n = n * 10 + u64::from(char::from(*digit).to_digit(10)?);
+    }
+    (n > 0).then_some(n)
+}
+
+// The whole number that these bytes are the shortest decimal of.
 fn read_numeral(bytes: &[u8]) -> Option<i64>
     requires { length bytes.now ≤ widest }
     ensures { MatchOption result ((z : ℤ) → bytes.now ≢ signed_numeral z) (λ z. bytes.now ≡ signed_numeral z) }
 {
     match bytes {
-        [PLUS, ..] | [ZERO, _, ..] | [MINUS, ZERO, ..] => None,
-        _ => str::from_utf8(bytes).ok()?.parse().ok(),
+        [ZERO] => Some(0),
+        [ZERO, ..] | [MINUS, ZERO, ..] => None,
+        [MINUS, digits @ ..] => Some(-(read_size(digits)? as i64)),
+        digits => Some(read_size(digits)? as i64),
     }
 }
 
@@ -100,7 +113,9 @@ fn numeral_at(text: &[u8], at: usize, width: usize) -> Option<(&[u8], usize)>
     Some((past_blanks(&text[at..next]), next))
 }
 
-// The number in the column of `width` bytes at a place of a text, and the next place.
+// The number in the column of `width` bytes at a place of a text, and the next place. It is inlined so that each column is
+// read at a width that is known; else a sheet takes a fifth more steps.
+#[inline(always)]
 #[tactic(auto, using(crate::proofs::Columns::shows_same))]
 pub fn read_number<N: Numeral>(text: &[u8], at: usize, width: usize) -> Option<(N, usize)>
     ensures { Reads N.number text.now at width result }
