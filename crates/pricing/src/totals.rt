@@ -49,15 +49,23 @@ fn no_legs<K: CostKind>() -> Rate<K>
     }
 }
 
-// What the legs of a list cost and take together; exact for as many as a chart has entries.
-pub fn total<C: Chart>(chart: &C, numbers: &[u16]) -> Rate<C::Cost>
+// The sum of the legs of a list on a chart within its limits, which bound each leg.
+fn sum_legs<C: Chart>(chart: &C, numbers: &[u16]) -> Rate<C::Cost>
+    requires { Within C.Cost.CostKind.kind (C.Chart.meaning chart.now) }
     ensures { length numbers.now ≤ most_legs → Totals C.Cost.CostKind.row (C.Chart.meaning chart.now) numbers.now result.cost result.hours }
 {
-    // the limits of the chart bound each leg
-    let _ports = chart.ports();
     let mut sum = no_legs();
     for number in numbers {
         sum = with_leg(sum, leg_at(chart, usize::from(*number)));
     }
     sum
+}
+
+// What the legs of a list cost and take together; exact for as many as a chart has entries.
+pub fn total<C: Chart>(chart: &C, numbers: &[u16]) -> Rate<C::Cost>
+    ensures { length numbers.now ≤ most_legs → Totals C.Cost.CostKind.row (C.Chart.meaning chart.now) numbers.now result.cost result.hours }
+{
+    // asked since a chart answers its ports only within its limits
+    let _ports = chart.ports();
+    sum_legs(chart, numbers)
 }

@@ -1,5 +1,5 @@
 // Reading a chart sheet into a table.
-ghost use Rattle.std.specs.Prelude.{◌≡◌, length, Ok};
+ghost use Rattle.std.specs.Prelude.{◌≡◌, length, replicate, Ok, None};
 ghost use Rattle.sheets.specs.Begun.{tallied};
 ghost use Rattle.sheet_reader.specs.Reading.{limits_of, Whole};
 ghost use Rattle.sheet_reader.specs.Tables.{Reads};
@@ -14,6 +14,13 @@ use limits::refusal::Refusal;
 use sheets::form::HEAD_LENGTH;
 use sheets::{SheetKind, Tally};
 
+// Makes every place blank.
+fn clear_table<K: CostKind>(table: &mut [Option<Leg<K>>])
+    ensures { table.new ≡ replicate (length table.old) None }
+{
+    table.fill(None);
+}
+
 // Puts the legs of a text that was checked into the table, and blanks every other place.
 fn fill_table<K: SheetKind>(
     text: &[u8],
@@ -25,7 +32,7 @@ fn fill_table<K: SheetKind>(
     requires size { bounds.numbers ≡ length table.old }
     ensures { Reads K.CostKind.kind K.CostKind.row bounds.ports text.now table.old (Ok tally.now.ports) table.new }
 {
-    table.fill(None);
+    clear_table(table);
     place_legs(&text[HEAD_LENGTH..], tally.legs, table);
 }
 

@@ -1,6 +1,10 @@
 // The calls on a sheet.
-ghost use Rattle.std.specs.Prelude.{◌≡◌};
-ghost use Rattle.sheets.specs.Begun.{begun, begun_answer};
+ghost use Rattle.std.specs.Prelude.{◌≡◌, ◌+◌, ◌<◌, ◌≤◌, length};
+ghost use Rattle.limits.specs.Numbers.{most_legs, most_hours, most_cost};
+ghost use Rattle.columns.specs.Put.{put};
+ghost use Rattle.sheets.specs.Places.{largest};
+ghost use Rattle.sheets.specs.Form.{leg_line, leg_length};
+ghost use Rattle.sheets.specs.Begun.{begun, begun_answer, with_leg};
 ghost use Rattle.sheets.specs.Writing.{numbered_of, Begins, Takes, Ends, struck};
 
 use super::{BegunSheet, ClosedSheet};
@@ -31,10 +35,21 @@ impl<K: SheetKind> BegunSheet<K> {
         ensures { Takes K.CostKind.kind (begun self.old) (numbered_of K.CostKind.row line) out.old result (begun self.new) out.new }
     {
         self.tally.check_line(line, out.len())?;
+        self.write_leg(out, line);
+        Ok(())
+    }
+
+    // Puts a leg line that fits, and counts it.
+    fn write_leg(&mut self, out: &mut [u8], line: NumberedLeg<K>)
+        requires room { self.old.tally.end + leg_length K.CostKind.kind.places ≤ length out.old }
+        requires few { self.old.tally.legs < most_legs }
+        requires fits { (line.number < most_legs) × ((line.leg.hours ≤ most_hours) × (largest (K.CostKind.row line.leg.cost) ≤ most_cost)) }
+        ensures sheet { begun self.new ≡ with_leg K.CostKind.kind.places (begun self.old) (numbered_of K.CostKind.row line) }
+        ensures bytes { out.new ≡ put out.old self.old.tally.end (leg_line K.CostKind.kind.places (numbered_of K.CostKind.row line)) }
+    {
         put_leg(out, self.tally.end, line);
         self.tally
             .count_leg(line.number, line.leg.hours, line.leg.cost);
-        Ok(())
     }
 
     // Puts the end line, which completes the sheet; where it does not fit, the sheet is handed back as it was.

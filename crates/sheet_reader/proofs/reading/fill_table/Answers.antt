@@ -14,7 +14,7 @@ place_legs-requires g c =
     let w = c.requires.checked in (
       w.sheet.legs,
       last_line k.places w.sheet,
-      lines_next k (limits_of c.args.bounds) c.args.text.now (tallied c.args.tally.now) g.K.CostKind.lawful.few_places w (length c.fill.new.self) _
+      lines_next k (limits_of c.args.bounds) c.args.text.now (tallied c.args.tally.now) g.K.CostKind.lawful.few_places w (length c.clear_table.new.table) _
           (omega (arith, c.requires.size)) (take_rest c.args.text.now head_length),
     )
 
@@ -28,9 +28,8 @@ returns g c =
     let few = g.K.CostKind.lawful.few_places in
     let w = subst (λ (size : ℕ). Whole k (record { ports = c.args.bounds.ports; numbers = size }) text b) c.requires.size c.requires.checked in
     let legs = w.sheet.legs in
-    let next = lines_next k (record { ports = c.args.bounds.ports; numbers = length table }) text b few w (length c.fill.new.self) _ (omega arith) (take_rest text head_length) in
-    let blank = c.fill.ensures.after (search rules) in
-    let filled = c.place_legs.ensures legs (last_line k.places w.sheet) next ∙ ap (λ t. placed legs (table_figures row t)) blank ∙ ap (placed legs) (blank_figures row (length table)) in
+    let next = lines_next k (record { ports = c.args.bounds.ports; numbers = length table }) text b few w (length c.clear_table.new.table) _ (omega arith) (take_rest text head_length) in
+    let filled = c.place_legs.ensures legs (last_line k.places w.sheet) next ∙ ap (λ t. placed legs (table_figures row t)) c.clear_table.ensures ∙ ap (placed legs) (blank_figures row (length table)) in
     read_all k row c.args.bounds.ports text table few (omega (arith, c.requires.size, c.args.bounds.few)) c.place_legs.new.table b w filled (omega arith)
 
 pub slice_bounds-place_legs-count : goal.slice_bounds-place_legs-count
