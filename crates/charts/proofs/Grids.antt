@@ -1,7 +1,7 @@
 -- What a grid of hours shows. Assumes nothing.
 use Rattle.std.proofs.Common.{◌≡◌, ℕ, zero, suc, ◌+◌, ◌/◌, ◌%◌, ◌≤◌, Bool, true, false, cond, eqb, List, [], ◌∷◌, length, get_or, take, sym, refl, ap, ◌∙◌, arith, length-take}
 use Rattle.std.proofs.lemmas.Bool.Decides.{nat_tests}
-use Rattle.limits.specs.Numbers.{most_ports, most_grid_ports, most_legs}
+use Rattle.limits.specs.Numbers.{most_ports, most_legs}
 use Rattle.rows.specs.Rows.{Row}
 use Rattle.rows.specs.Kinds.{Kind}
 use Rattle.charts.specs.Meaning.{Figures, blank, leg, Allowed, Within, shown_at}
@@ -33,10 +33,10 @@ module _ (k : Kind) (p : ℕ) (c : Row) where
       by_test true e = blank_no_leg e
       by_test false e = limited_allowed k p _ f e
 
-  pub grid_within : (hours : List ℕ) → 1 ≤ p → p ≤ most_grid_ports → Within k (grid k p c hours)
+  pub grid_within : (hours : List ℕ) → 1 ≤ p → p ≤ most_ports → Within k (grid k p c hours)
   grid_within hours some few = record {
     some_port = some;
-    few_ports = omega arith;
+    few_ports = few;
     few_entries = omega (arith, length_grid hours, length-take most_legs hours);
     legs_allowed = λ n f e. hours_allowed n (get_or (take most_legs hours) n 0) f (shown_hours hours n _ refl ∙ e);
   }

@@ -3,7 +3,7 @@ ghost use Rattle.sheets.specs.Listing.{listed, PutsSheet};
 
 use crate::form::Form;
 use crate::kind::SheetKind;
-use crate::numbered::NumberedLeg;
+pub use crate::numbered::NumberedLeg;
 use crate::sheet::BegunSheet;
 use limits::refusal::Refusal;
 
